@@ -1,0 +1,54 @@
+-- Byte AIMD keeps the laws of a controller. Assumes nothing.
+use mathlib.Core.Path.{_≡_, refl, sym, _∙_, ap}
+use mathlib.Core.Bool.{Bool, true, false, cond}
+use mathlib.Core.HLevel.{isProp→PathP}
+use Prim.Native.Nat.{ℕ, _+_, _*_, _≤_, _<_}
+use native.Mathlib.Bridge.{le-prop}
+use lib.Dec.{ltb, leb}
+use Rattle.std.proofs.shelf.Tests.{cond-both}
+use Rattle.meaning.specs.declared.report.Mode.{Mode}
+use Rattle.meaning.specs.declared.report.Mode.the-variants.{Clear, Loss, Mark, Silence}
+use Rattle.meaning.specs.declared.report.Report.{Report}
+use Rattle.meaning.specs.Paths.{path-after}
+use Rattle.meaning.specs.Control.{Control-laws}
+use Rattle.meaning.proofs.Hearing.{told-both, told-acts, told-nothing}
+use Rattle.controllers.specs.declared.aimd.state.AimdState.{AimdState}
+use Rattle.controllers.specs.declared.aimd.ByteAimd.{ByteAimd}
+use Rattle.controllers.specs.Aimd.{sampled, slow-start, avoidance, step}
+use Rattle.controllers.specs.AimdRange.{In-range}
+use Rattle.controllers.specs.AimdControl.{aimd-control}
+
+range-prop : (s : AimdState) → IsProp (In-range s)
+range-prop s x y = λ i. (
+  (le-prop (x .0 .0) (y .0 .0) i, le-prop (x .0 .1) (y .0 .1) i),
+  (le-prop (x .1 .0) (y .1 .0) i, le-prop (x .1 .1) (y .1 .1) i),
+  (le-prop (x .2 .0) (y .2 .0) i, le-prop (x .2 .1) (y .2 .1) i),
+  le-prop (x .3) (y .3) i,
+)
+
+-- a controller is told by its numbers
+pub same-aimd : (a b : ByteAimd) → a .state ≡ b .state → a ≡ b
+same-aimd a b e = λ i. record { state = e i; ranged = isProp→PathP (λ j. In-range (e j)) (λ j. range-prop (e j)) (a .ranged) (b .ranged) i }
+
+-- no mode touches the packet or the path estimate
+abbrev Kept : AimdState → AimdState → Type 0
+Kept s t = (t .packet ≡ s .packet) × (t .path ≡ s .path)
+
+step-keeps : (s : AimdState) (r : Report) (m : Mode) → Kept s (step s r m)
+step-keeps s r Clear =
+    cond-both (ltb (s .window) (s .threshold)) _ _ (Kept s) (λ _. (refl, refl))
+    (λ _. cond-both (leb (s .window) (s .count + r .received)) _ _ (Kept s) (λ _. (refl, refl)) (λ _. (refl, refl)))
+step-keeps s r Loss = (refl, refl)
+step-keeps s r Mark = (refl, refl)
+step-keeps s r Silence = (refl, refl)
+
+pub aimd-laws : Control-laws aimd-control
+aimd-laws = record {
+  packet-least = λ c. c .ranged .0 .0;
+  packet-most = λ c. c .ranged .0 .1;
+  packet-stays = λ c r. told-both sampled step (c .state) r (λ t. t .packet ≡ c .state .packet) (λ m. step-keeps (sampled (c .state) r) r m .0) refl;
+  allowance-least = λ c. c .ranged .1 .0;
+  allowance-most = λ c. c .ranged .1 .1;
+  path-steps = λ c r e. told-acts sampled step (c .state) r e (λ t. t .path ≡ path-after (c .state .path) (r .sample)) (λ m. step-keeps (sampled (c .state) r) r m .1);
+  ignores = λ c r e. same-aimd _ _ (told-nothing sampled step (c .state) r e);
+}

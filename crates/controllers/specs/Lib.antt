@@ -1,0 +1,4 @@
+pub mod Packets
+pub mod Aimd
+pub mod AimdRange
+pub mod AimdControl

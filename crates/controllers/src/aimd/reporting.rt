@@ -1,0 +1,55 @@
+//! Byte AIMD as a controller.
+ghost use mathlib.Core.Path.{_≡_};
+ghost use Rattle.controllers.specs.AimdRange.{In-range};
+ghost use Rattle.controllers.specs.AimdControl.{aimd-control, made, numbers-of};
+use super::AimdState;
+use super::ByteAimd;
+use crate::packets::is_packet;
+use crate::packets::packet_refused;
+use meaning::Controller;
+use meaning::PathEstimate;
+use meaning::Refusal;
+use meaning::Report;
+
+impl ByteAimd {
+    /// A new controller with packets of this size. Refused with number 19 unless the size is 64
+    /// to 9,000 bytes.
+    pub fn new(packet: u64) -> Result<ByteAimd, Refusal>
+        ensures { λ r. ⌜ numbers-of r ≡ made packet ⌝ }
+    {
+        if !is_packet(packet) {
+            return Err(packet_refused());
+        }
+        Ok(ByteAimd {
+            state: AimdState::fresh(packet),
+        })
+    }
+
+    /// The controller's numbers.
+    pub fn state(&self) -> AimdState
+        ensures value { λ r. ⌜ r ≡ now (self .entry) .state ⌝ }
+        ensures ranged { λ r. ⌜ In-range r ⌝ }
+    {
+        self.state
+    }
+}
+
+pub impl Controller for ByteAimd as AimdController {
+    ghost control = { aimd-control };
+
+    fn packet(&self) -> u64 {
+        self.state.packet
+    }
+
+    fn allowance(&self) -> u64 {
+        self.state.window
+    }
+
+    fn path(&self) -> Option<PathEstimate> {
+        self.state.path
+    }
+
+    fn report(&mut self, report: Report) {
+        self.state = self.state.told(report);
+    }
+}

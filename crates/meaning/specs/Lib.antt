@@ -1,0 +1,3 @@
+pub mod Paths
+pub mod Reports
+pub mod Control

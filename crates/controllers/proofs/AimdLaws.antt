@@ -3,7 +3,7 @@ use mathlib.Core.Path.{_≡_, refl, sym, _∙_, ap}
 use mathlib.Core.Bool.{Bool, true, false, cond}
 use mathlib.Core.HLevel.{isProp→PathP}
 use Prim.Native.Nat.{ℕ, _+_, _*_, _≤_, _<_}
-use native.Mathlib.Bridge.{le-prop}
+use denote.Struct.Props.{props}
 use lib.Dec.{ltb, leb}
 use Rattle.std.proofs.shelf.Tests.{cond-both}
 use Rattle.meaning.specs.declared.report.Mode.{Mode}
@@ -14,17 +14,12 @@ use Rattle.meaning.specs.Control.{Control-laws}
 use Rattle.meaning.proofs.Hearing.{told-both, told-acts, told-nothing}
 use Rattle.controllers.specs.declared.aimd.state.AimdState.{AimdState}
 use Rattle.controllers.specs.declared.aimd.ByteAimd.{ByteAimd}
-use Rattle.controllers.specs.Aimd.{sampled, slow-start, avoidance, step}
+use Rattle.controllers.specs.Aimd.{sampled, step}
 use Rattle.controllers.specs.AimdRange.{In-range}
 use Rattle.controllers.specs.AimdControl.{aimd-control}
 
 range-prop : (s : AimdState) → IsProp (In-range s)
-range-prop s x y = λ i. (
-  (le-prop (x .0 .0) (y .0 .0) i, le-prop (x .0 .1) (y .0 .1) i),
-  (le-prop (x .1 .0) (y .1 .0) i, le-prop (x .1 .1) (y .1 .1) i),
-  (le-prop (x .2 .0) (y .2 .0) i, le-prop (x .2 .1) (y .2 .1) i),
-  le-prop (x .3) (y .3) i,
-)
+range-prop s = search props
 
 -- a controller is told by its numbers
 pub same-aimd : (a b : ByteAimd) → a .state ≡ b .state → a ≡ b

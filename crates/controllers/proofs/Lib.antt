@@ -1,1 +1,2 @@
 pub mod AimdLaws
+pub mod RateLaws

@@ -2,3 +2,6 @@ pub mod Packets
 pub mod Aimd
 pub mod AimdRange
 pub mod AimdControl
+pub mod Rate
+pub mod RateRange
+pub mod RateControl

@@ -3,22 +3,20 @@ use mathlib.Core.Path.{_≡_, refl, sym, ap}
 use mathlib.Core.Bool.{Bool, true, false}
 use mathlib.Core.HLevel.{isProp→PathP}
 use Prim.Native.Nat.{ℕ, _+_, _*_, _/_, _≤_}
-use native.Mathlib.Bridge.{le-prop}
+use denote.Struct.Props.{props}
 use Rattle.std.specs.declared.option.Option.{Option}
 use Rattle.std.specs.declared.option.Option.the-variants.{Some, None}
 use Rattle.std.proofs.shelf.Tests.{true≢false}
 use Rattle.meaning.specs.declared.path.PathEstimate.{PathEstimate}
 use Rattle.meaning.specs.Paths.{smoothed, variation, is-sample, sample-range, distance, first-estimate, next-estimate, path-sampled, path-after}
 
-Ranged : ℕ → ℕ → Type 0
+abbrev Ranged : ℕ → ℕ → Type 0
 Ranged s v = (1 ≤ s) × (s ≤ 10000000) × (v ≤ 10000000)
 
 ranged-prop : (s v : ℕ) → IsProp (Ranged s v)
-unfolding Ranged
-ranged-prop s v x y = λ i. (le-prop (x .0) (y .0) i, le-prop (x .1) (y .1) i, le-prop (x .2) (y .2) i)
+ranged-prop s v = search props
 
 pub same-estimate : (p q : PathEstimate) → p .srtt ≡ q .srtt → p .rttvar ≡ q .rttvar → p ≡ q
-unfolding Ranged
 same-estimate p q s v = λ i. record {
   srtt = s i;
   rttvar = v i;

@@ -1,11 +1,12 @@
 //! Byte AIMD as a controller.
 ghost use mathlib.Core.Path.{_≡_};
 ghost use Rattle.controllers.specs.AimdRange.{In-range};
-ghost use Rattle.controllers.specs.AimdControl.{aimd-control, made, numbers-of};
+ghost use Rattle.controllers.specs.Packets.{made, numbers-of};
+ghost use Rattle.controllers.specs.Aimd.{fresh};
+ghost use Rattle.controllers.specs.AimdControl.{aimd-control};
 use super::AimdState;
 use super::ByteAimd;
-use crate::packets::is_packet;
-use crate::packets::packet_refused;
+use crate::packets::checked_packet;
 use meaning::Controller;
 use meaning::PathEstimate;
 use meaning::Refusal;
@@ -15,11 +16,9 @@ impl ByteAimd {
     /// A new controller with packets of this size. Refused with number 19 unless the size is 64
     /// to 9,000 bytes.
     pub fn new(packet: u64) -> Result<ByteAimd, Refusal>
-        ensures { λ r. ⌜ numbers-of r ≡ made packet ⌝ }
+        ensures { λ r. ⌜ numbers-of (λ c. c .state) r ≡ made fresh packet ⌝ }
     {
-        if !is_packet(packet) {
-            return Err(packet_refused());
-        }
+        let packet = checked_packet(packet)?;
         Ok(ByteAimd {
             state: AimdState::fresh(packet),
         })
@@ -34,7 +33,7 @@ impl ByteAimd {
     }
 }
 
-pub impl Controller for ByteAimd as AimdController {
+pub impl Controller for ByteAimd as AimdControl {
     ghost control = { aimd-control };
 
     fn packet(&self) -> u64 {

@@ -1,2 +1,3 @@
+pub mod AimdFacts
 pub mod AimdLaws
 pub mod RateLaws

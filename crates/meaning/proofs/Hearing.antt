@@ -60,3 +60,7 @@ module _ {S : Type 0} (sampled : S → Report → S) (step : S → Report → Mo
   -- a report out of range does nothing
   pub told-nothing : in-range r ≡ false → told-by sampled step s r ≡ s
   told-nothing e = ap (λ (o : Option Mode). when-heard o (step (sampled s r) r) s) (heard-none r e)
+
+  -- a report that is heard acts by its mode
+  pub told-as : (m : Mode) → heard r ≡ Some m → told-by sampled step s r ≡ step (sampled s r) r m
+  told-as m e = ap (λ (o : Option Mode). when-heard o (step (sampled s r) r) s) e

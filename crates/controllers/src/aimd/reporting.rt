@@ -4,6 +4,7 @@ ghost use Rattle.controllers.specs.AimdRange.{In-range};
 ghost use Rattle.controllers.specs.Packets.{made, numbers-of};
 ghost use Rattle.controllers.specs.Aimd.{fresh};
 ghost use Rattle.controllers.specs.AimdControl.{aimd-control};
+ghost use Rattle.controllers.specs.AimdFacts.{Loss-never-grows, Silence-leaves-one};
 use super::AimdState;
 use super::ByteAimd;
 use crate::packets::checked_packet;
@@ -48,7 +49,11 @@ pub impl Controller for ByteAimd as AimdControl {
         self.state.path
     }
 
-    fn report(&mut self, report: Report) {
+    fn report(&mut self, report: Report)
+        ensures after { λ _. ⌜ now (self .exit) ≡ aimd-control .told (now (self .entry)) report ⌝ }
+        ensures loss { λ _. ⌜ Loss-never-grows (now (self .entry) .state) (now (self .exit) .state) report ⌝ }
+        ensures silence { λ _. ⌜ Silence-leaves-one (now (self .entry) .state) (now (self .exit) .state) report ⌝ }
+    {
         self.state = self.state.told(report);
     }
 }

@@ -1,5 +1,10 @@
 //! Byte AIMD: a window that grows additively and falls multiplicatively.
+ghost use mathlib.Core.Path.{_≡_};
+ghost use Rattle.controllers.specs.Packets.{made, numbers-of};
+ghost use Rattle.controllers.specs.Aimd.{fresh};
 ghost use Rattle.controllers.specs.AimdRange.{In-range};
+use crate::packets::checked_packet;
+use meaning::Refusal;
 
 pub mod reporting;
 mod state;
@@ -15,4 +20,25 @@ pub use state::AimdState;
 pub struct ByteAimd {
     state: AimdState,
     ghost ranged: { In-range state },
+}
+
+impl ByteAimd {
+    /// A new controller with packets of this size. Refused with number 19 unless the size is 64
+    /// to 9,000 bytes.
+    pub fn new(packet: u64) -> Result<ByteAimd, Refusal>
+        ensures { λ r. ⌜ numbers-of (λ c. c .state) r ≡ made fresh packet ⌝ }
+    {
+        let packet = checked_packet(packet)?;
+        Ok(ByteAimd {
+            state: AimdState::fresh(packet),
+        })
+    }
+
+    /// The controller's numbers.
+    pub fn state(&self) -> AimdState
+        ensures value { λ r. ⌜ r ≡ now (self .entry) .state ⌝ }
+        ensures ranged { λ r. ⌜ In-range r ⌝ }
+    {
+        self.state
+    }
 }

@@ -1,7 +1,7 @@
 //! The numbers of a byte AIMD controller, and how a report moves them.
 ghost use Prim.Native.Nat.{_≤_, _<_, _^_};
 ghost use mathlib.Core.Path.{_≡_};
-ghost use Rattle.controllers.specs.Aimd.{starting-window, fresh as fresh-state, threshold-after, step as state-step, told as state-told};
+ghost use Rattle.controllers.specs.Aimd.{starting-window, fresh as fresh-state, moved, threshold-after, step as state-step, told as state-told};
 ghost use Rattle.controllers.specs.AimdRange.{In-range};
 use meaning::MAX_ALLOWANCE;
 use meaning::Mode;
@@ -57,6 +57,18 @@ impl AimdState {
         (flight / 2).max(2 * self.packet).min(MAX_ALLOWANCE)
     }
 
+    /// The numbers with another window and threshold, and the count begun anew.
+    fn resized(self, window: u64, threshold: u64) -> AimdState
+        ensures { λ r. ⌜ r ≡ moved self window threshold 0 ⌝ }
+    {
+        AimdState {
+            window,
+            threshold,
+            count: 0,
+            ..self
+        }
+    }
+
     /// The numbers after a report in range, whose sample is taken already.
     ///
     /// - Clear, below the threshold: the window grows by the bytes received, at most a packet.
@@ -78,26 +90,15 @@ impl AimdState {
                 count: self.count + report.received,
                 ..self
             },
-            Mode::Clear => AimdState {
-                window: (self.window + self.packet).min(MAX_ALLOWANCE),
-                count: 0,
-                ..self
-            },
+            Mode::Clear => self.resized(
+                (self.window + self.packet).min(MAX_ALLOWANCE),
+                self.threshold,
+            ),
             Mode::Loss | Mode::Mark => {
                 let threshold = self.threshold_after(report.flight);
-                AimdState {
-                    window: self.window.min(threshold),
-                    threshold,
-                    count: 0,
-                    ..self
-                }
+                self.resized(self.window.min(threshold), threshold)
             }
-            Mode::Silence => AimdState {
-                window: self.packet,
-                threshold: self.threshold_after(report.flight),
-                count: 0,
-                ..self
-            },
+            Mode::Silence => self.resized(self.packet, self.threshold_after(report.flight)),
         }
     }
 

@@ -1,7 +1,7 @@
 //! The numbers of a rate controller, and how a report moves them.
 ghost use Prim.Native.Nat.{_≤_, _<_, _^_};
 ghost use mathlib.Core.Path.{_≡_};
-ghost use Rattle.controllers.specs.Rate.{round-trip, allowance as allowance-of, fresh as fresh-state, step as state-step, told as state-told};
+ghost use Rattle.controllers.specs.Rate.{round-trip, allowance as allowance-of, fresh as fresh-state, moved, step as state-step, told as state-told};
 ghost use Rattle.controllers.specs.RateRange.{In-range};
 use meaning::MAX_ALLOWANCE;
 use meaning::Mode;
@@ -72,6 +72,17 @@ impl RateState {
             .min(MAX_ALLOWANCE)
     }
 
+    /// The numbers with another rate, and the count begun anew.
+    fn paced(self, rate: u64) -> RateState
+        ensures { λ r. ⌜ r ≡ moved self rate 0 ⌝ }
+    {
+        RateState {
+            rate,
+            count: 0,
+            ..self
+        }
+    }
+
     /// The numbers after a report in range, whose sample is taken already.
     ///
     /// - Clear: the bytes received are counted, and once they come to the allowance the rate
@@ -88,21 +99,9 @@ impl RateState {
                 count: self.count + report.received,
                 ..self
             },
-            Mode::Clear => RateState {
-                rate: (self.rate + GROWTH / self.rate).min(MAX_RATE),
-                count: 0,
-                ..self
-            },
-            Mode::Loss | Mode::Mark => RateState {
-                rate: (self.rate - RATE_STEP).max(RATE_STEP),
-                count: 0,
-                ..self
-            },
-            Mode::Silence => RateState {
-                rate: RATE_STEP,
-                count: 0,
-                ..self
-            },
+            Mode::Clear => self.paced((self.rate + GROWTH / self.rate).min(MAX_RATE)),
+            Mode::Loss | Mode::Mark => self.paced((self.rate - RATE_STEP).max(RATE_STEP)),
+            Mode::Silence => self.paced(RATE_STEP),
         }
     }
 

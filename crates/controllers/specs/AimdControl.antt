@@ -1,11 +1,12 @@
 -- Byte AIMD as a controller. Assumes nothing.
 --   told c r          the controller after a report: its numbers by the rule of Aimd
 --   aimd-control      what it tells: its packet, its window as the allowance, its path estimate
+use native.Mathlib.Omega.{arith}
 use Rattle.meaning.specs.declared.report.Report.{Report}
 use Rattle.meaning.specs.Control.{Control}
 use Rattle.controllers.specs.declared.aimd.ByteAimd.{ByteAimd}
 use Rattle.controllers.specs.Aimd as aimd
-use Rattle.controllers.specs.AimdRange.{told-in-range}
+use Rattle.controllers.specs.AimdRange.{fresh-in-range, told-in-range}
 
 abbrev pub told : ByteAimd → Report → ByteAimd
 told c r = record { state = aimd.told (c .state) r; ranged = told-in-range (c .state) (c .ranged) r }
@@ -16,4 +17,5 @@ aimd-control = record {
   allowance = λ c. c .state .window;
   path = λ c. c .state .path;
   told = told;
+  spare = record { state = aimd.fresh 64; ranged = fresh-in-range 64 (omega arith, omega arith) };
 }

@@ -27,7 +27,13 @@ Threshold-range p t = (2 * p ≤ t) × (t ≤ 1048576)
 abbrev pub In-range : AimdState → Type 0
 In-range s = Packet-range (s .packet) × Window-range (s .packet) (s .window) × Threshold-range (s .packet) (s .threshold) × (s .count < 1048576)
 
--- a new controller is in range, and every report keeps it there
+pub fresh-in-range : (p : ℕ) → Packet-range p → In-range (fresh p)
+fresh-in-range p h =
+    let w : Window-range p (starting-window p) =
+    cond-both (leb p 1095) _ _ (Window-range p) (λ e. (omega (arith, h), omega (arith, h)))
+    (λ _. cond-both (leb p 2190) _ _ (Window-range p) (λ e. (omega (arith, h), omega (arith, h))) (λ _. (omega (arith, h), omega (arith, h)))) in
+    (h, w, (omega (arith, h), omega arith), omega arith)
+
 module _ (s : AimdState) (h : In-range s) where
   cut-in-range : (f : ℕ) → In-range (cut s f)
   cut-in-range f = (h .0, (omega (arith, h), omega (arith, h)), (omega (arith, h), omega (arith, h)), omega (arith, h))

@@ -14,13 +14,16 @@ use Rattle.meaning.specs.declared.report.Report.{Report}
 use Rattle.meaning.proofs.Hearing.{told-both}
 use Rattle.controllers.specs.Packets.{Packet-range}
 use Rattle.controllers.specs.declared.rate.state.RateState.{RateState}
-use Rattle.controllers.specs.Rate.{allowance, sampled, counted, step, told}
+use Rattle.controllers.specs.Rate.{allowance, fresh, sampled, counted, step, told}
 
 abbrev pub Rate-range : ℕ → Type 0
 Rate-range v = (8000 ≤ v) × (v ≤ 10000000)
 
 abbrev pub In-range : RateState → Type 0
 In-range s = Packet-range (s .packet) × Rate-range (s .rate) × (s .count < 1048576)
+
+pub fresh-in-range : (p : ℕ) → Packet-range p → In-range (fresh p)
+fresh-in-range p h = (h, (omega arith, omega arith), omega arith)
 
 module _ (s : RateState) (h : In-range s) where
   counted-in-range : (n : ℕ) → In-range (counted s n)

@@ -20,6 +20,8 @@ pub record Control (C : Type 0) : Type 0 where
   pub path : C → Option PathEstimate
   -- the controller after a report
   pub told : C → Report → C
+  -- any controller: what a look past the end of a list of them gives
+  pub spare : C
 
 pub record Control-laws {C : Type 0} (k : Control C) : Type 0 where
   -- the packet is 64 to 9,000 bytes, and no report changes it

@@ -1,8 +1,12 @@
+//! What the parts of a macroflow mean, whoever writes them: the trait of a controller and the trait of
+//! a scheduler, with the laws that each of them keeps, and the types that they speak in.
 mod controller;
 mod limits;
 mod path;
+mod picking;
 mod refusal;
 mod report;
+mod scheduler;
 
 pub use controller::Controller;
 pub use controller::tell_all;
@@ -10,6 +14,7 @@ pub use limits::MAX_ALLOWANCE;
 pub use limits::MAX_PACKET;
 pub use limits::MIN_PACKET;
 pub use path::PathEstimate;
+pub use picking::next_picks;
 pub use refusal::Refusal;
 pub use refusal::RefusalDebug;
 pub use refusal::RefusalPartialEq;
@@ -17,3 +22,4 @@ pub use report::Mode;
 pub use report::ModeDebug;
 pub use report::ModePartialEq;
 pub use report::Report;
+pub use scheduler::Scheduler;

@@ -1,0 +1,4 @@
+pub mod Same
+pub mod TwoLevels
+pub mod Lawful
+pub mod Steps

@@ -1,5 +1,6 @@
 -- The rows of the ledger. Assumes nothing.
 --   blank-row           a row that describes no grant yet
+--   fate-number f       0 open, 1 charged, 2 returned, 3 expired
 --   is-open f           whether a fate is that of a grant that has not ended
 --   is-due t r          an open row whose deadline is not after t
 --   due-upto r s        the order of expiry: the earlier deadline, then the lower slot
@@ -16,6 +17,12 @@ use Rattle.tables.specs.declared.row.Fate.the-variants.{Open, Charged, Returne
 
 abbrev pub blank-row : Row
 blank-row = record { slot = 0; macroflow = 0; granted = 0; issued = 0; deadline = 0; fate = Open; sent = 0; ended = 0; taken = false }
+
+abbrev pub fate-number : Fate → ℕ
+fate-number Open = 0
+fate-number Charged = 1
+fate-number Returned = 2
+fate-number Expired = 3
 
 abbrev pub is-open : Fate → Bool
 is-open Open = true

@@ -1,19 +1,28 @@
 //! The rows of the ledger.
 ghost use mathlib.Core.Path.{_≡_};
-ghost use Rattle.tables.specs.Rows.{blank-row, is-due, due-upto, is-open as is-open-fate};
+ghost use Rattle.tables.specs.Rows.{fate-number, blank-row, is-due, due-upto, is-open as is-open-fate};
 use least::Ranking;
 
 /// What became of a grant.
 #[derive(Clone, Copy, PartialEq, Eq, Debug)]
 pub enum Fate {
-    /// It has not ended (number 0).
-    Open,
-    /// It was settled with bytes sent (number 1).
-    Charged,
-    /// It was settled with nothing sent (number 2).
-    Returned,
-    /// It was not settled by its deadline (number 3).
-    Expired,
+    /// It has not ended.
+    Open = 0,
+    /// It was settled with bytes sent.
+    Charged = 1,
+    /// It was settled with nothing sent.
+    Returned = 2,
+    /// It was not settled by its deadline.
+    Expired = 3,
+}
+
+impl Fate {
+    /// The number of the fate, 0 to 3.
+    pub fn number(self) -> u8
+        ensures { λ r. ⌜ r ≡ fate-number self ⌝ }
+    {
+        self as u8
+    }
 }
 
 /// A row of the ledger. Row g describes grant g, counted from 0 in the order of issue.

@@ -1,7 +1,7 @@
 -- What raise, lower and pick make of a round robin's state.
 --   weight-past    nothing stands past the last place
 --   raise-yes, raise-no  a raise that is taken, and one that changes nothing
---   on, off-idle, off-spent  when the turn goes on
+--   on             when the turn goes on
 --   by-pick        the cases of a pick: the turn goes on, or a search finds a place, or it finds none
 use mathlib.Core.Path.{_≡_, refl, sym, _∙_, ap}
 use mathlib.Core.Logic.{_⊎_, inl, inr, ⊎-elim}
@@ -45,18 +45,6 @@ module _ {N : ℕ} (s : RoundRobinState N) where
 
   pub on : 0 < weight-of s (s .turn) → 0 < s .credit → goes-on s ≡ true
   on w l = grind (arith, tells)
-
-  pub off-idle : waits s (s .turn) ≡ false → goes-on s ≡ false
-  off-idle w = grind (arith, tells)
-
-  pub off-spent : s .credit ≤ 0 → goes-on s ≡ false
-  off-spent w = grind (arith, tells)
-
-  pub chosen-off : goes-on s ≡ false → (o : Option ℕ) → o ≡ next-waiting s → o ≡ chosen s
-  chosen-off h o e = e ∙ sym (cond-false (goes-on s) _ _ h)
-
-  pub turned-off : goes-on s ≡ false → (o : Option ℕ) → o ≡ next-waiting s → after-search s o ≡ turned s
-  turned-off h o e = ap (λ (x : Option ℕ). after-search s x) e ∙ sym (cond-false (goes-on s) _ _ h)
 
   pub by-pick : (P : Option ℕ → RoundRobinState N → Type 0)
       → (goes-on s ≡ true → P (Some (s .turn)) (spent s))

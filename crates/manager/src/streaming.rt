@@ -2,7 +2,7 @@
 ghost use mathlib.Core.Path.{_≡_};
 ghost use Rattle.std.specs.Vec.{refused};
 ghost use Rattle.tables.specs.Replies.{reply};
-ghost use Rattle.stream_calls.specs.Calls.{«open» as open-call, request as request-call, report as report-call, close as close-call, standing as standing-call, quietest as quietest-call};
+ghost use Rattle.stream_calls.specs.Calls.{«open» as open-call, request as request-call, report as report-call, move-to as move-call, close as close-call, standing as standing-call, quietest as quietest-call};
 use crate::manager_state::Manager;
 use meaning::Controller;
 use meaning::Refusal;
@@ -51,6 +51,20 @@ impl Manager {
         ensures refused { λ r. ⌜ refused r (λ _. (now (self .exit) ≡ now (self .entry)) × (now (controllers .exit) ≡ now (controllers .entry))) ⌝ }
     {
         stream_calls::report(&mut self.core, controllers, time, slot, feedback)
+    }
+
+    /// Moves a stream to another macroflow, with all its numbers.
+    pub fn move_to<S: Scheduler>(
+        &mut self,
+        schedulers: &mut [S],
+        time: u64,
+        slot: usize,
+        macroflow: usize,
+    ) -> Result<(), Refusal>
+        ensures plain { λ r. ⌜ reply r (now (self .exit) .core) (now (schedulers .exit)) ≡ move-call scheduling (now (self .entry) .core) (now (schedulers .entry)) time slot macroflow ⌝ }
+        ensures refused { λ r. ⌜ refused r (λ _. (now (self .exit) ≡ now (self .entry)) × (now (schedulers .exit) ≡ now (schedulers .entry))) ⌝ }
+    {
+        stream_calls::move_to(&mut self.core, schedulers, time, slot, macroflow)
     }
 
     /// Closes a stream: its waiting requests are dropped, and what is outstanding counts as abandoned.

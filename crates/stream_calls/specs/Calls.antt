@@ -19,7 +19,7 @@ use Rattle.meaning.specs.Scheduling.{Scheduling}
 use Rattle.tables.specs.declared.core_state.Core.{Core}
 use Rattle.tables.specs.declared.stream.Stream.{Stream}
 use Rattle.tables.specs.Numbers.{all-fit}
-use Rattle.tables.specs.Streams.{opened, requested, reported, closed, is-open, quiet-upto}
+use Rattle.tables.specs.Streams.{opened, requested, reported, moved, closed, is-open, quiet-upto}
 use Rattle.tables.specs.Core.{stream, timely, about-slot, about-macroflow, put}
 use Rattle.tables.specs.Sums.{flight}
 use Rattle.tables.specs.Replies.{Reply, reply, Question, q, asked, answered}
@@ -129,6 +129,28 @@ abbrev pub close : {S : Type 0} → Scheduling S → Core → List S → ℕ →
 close k m ss t i =
     answered (asked (close-questions m (length ss) t i) (about-slot m i) (stream m i)) m ss
     (λ s. reply (Ok tt) (put m t i (closed s)) (lowered-in k ss (s .macroflow) i))
+
+-- the stream of the slot i goes to the macroflow f at the time t
+abbrev pub move-questions : Core → ℕ → ℕ → ℕ → ℕ → List Question
+move-questions m k t i f =
+    let s = stream m i in
+    q (eqb k (m .macroflows)) 1
+    ∷ q (timely m t) 2
+    ∷ q (ltb i 32) 3
+    ∷ q (ltb f (m .macroflows)) 4
+    ∷ q (s .opened) 7
+    ∷ q (not (eqb (s .macroflow) f)) 17
+    ∷ q (ltb (s .macroflow) (m .macroflows)) 1
+    ∷ []
+
+-- a slot that waits is lowered in the scheduler of the macroflow it leaves, and raised in that of the one it comes to
+abbrev pub passed-on : {S : Type 0} → Scheduling S → List S → ℕ → ℕ → Stream → List S
+passed-on k ss i f s = cond (ltb 0 (s .waiting)) (raised-in k (lowered-in k ss (s .macroflow) i) f i (s .weight)) ss
+
+abbrev pub move-to : {S : Type 0} → Scheduling S → Core → List S → ℕ → ℕ → ℕ → Reply Done (List S)
+move-to k m ss t i f =
+    answered (asked (move-questions m (length ss) t i f) (about-macroflow m (Some i) f) (stream m i)) m ss
+    (λ s. reply (Ok tt) (put m t i (moved s f)) (passed-on k ss i f s))
 
 -- the record of the slot i
 abbrev pub standing : Core → ℕ → Result Stream Refusal

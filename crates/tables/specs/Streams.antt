@@ -10,6 +10,7 @@
 --   settled s g n t     g open bytes less, n bytes charged and outstanding, at t
 --   expired s g         g open bytes less
 --   reported s r l t    r bytes received and l lost, which are no longer outstanding, at t
+--   moved s f           in the macroflow f, with all its numbers
 --   closed s            closed: nothing waits, and what is outstanding is abandoned
 use mathlib.Core.Bool.{Bool, true, false, cond, _&&_}
 use Prim.Native.Nat.{ℕ, _+_, _-_}
@@ -143,6 +144,22 @@ reported s r l t = record {
   charged = s .charged;
   received = s .received + r;
   lost = s .lost + l;
+  abandoned = s .abandoned;
+}
+
+abbrev pub moved : Stream → ℕ → Stream
+moved s f = record {
+  opened = s .opened;
+  macroflow = f;
+  weight = s .weight;
+  life = s .life;
+  waiting = s .waiting;
+  reserved = s .reserved;
+  outstanding = s .outstanding;
+  quiet = s .quiet;
+  charged = s .charged;
+  received = s .received;
+  lost = s .lost;
   abandoned = s .abandoned;
 }
 

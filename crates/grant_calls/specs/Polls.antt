@@ -23,7 +23,7 @@ use Rattle.tables.specs.declared.stream.Stream.{Stream}
 use Rattle.meaning.specs.Below.{all-below}
 use Rattle.tables.specs.Numbers.{all-fit}
 use Rattle.tables.specs.Streams.{waits-in, granted as granted-stream}
-use Rattle.tables.specs.Rows.{issued-row}
+use Rattle.tables.specs.Rows.{open-row}
 use Rattle.tables.specs.Core.{stream, timely, about-macroflow, at-time}
 use Rattle.tables.specs.Sums.{load, someone-waits}
 use Rattle.tables.specs.Replies.{Reply, reply, Question, q, asked, answered}
@@ -61,7 +61,7 @@ module _ {S : Type 0} (k : Scheduling S) (m : Core) (ss : List S) (rs : List Row
   granted x None = reply (Err (about-macroflow m None f 1)) m (ss, rs)
   granted x (Some i) =
       answered (asked (q (can-get m i f t p) 1 ∷ []) (about-macroflow m None f) (stream m i)) m (ss, rs)
-      (λ s. reply (Ok (Granted (m .issued))) (issued-to m t i p) (set ss f (served k x i s), set rs (m .issued) (issued-row i f p t (s .life))))
+      (λ s. reply (Ok (Granted (m .issued))) (issued-to m t i p) (set ss f (served k x i s), set rs (m .issued) (open-row i f p t (t + s .life))))
 
   abbrev pub issue-questions : S → List Question
   issue-questions x = q (ltb (m .issued) (length rs)) 9 ∷ q (agrees k m x f) 1 ∷ []

@@ -11,7 +11,6 @@ use meaning::Controller;
 use meaning::Refusal;
 use meaning::Scheduler;
 use tables::Core;
-use tables::Fate;
 use tables::Row;
 use tables::SLOTS;
 use tables::difference_fits;
@@ -108,17 +107,7 @@ fn issue<S: Scheduler>(
         scheduler.lower(slot);
     }
     schedulers[macroflow] = scheduler;
-    rows[grant] = Row {
-        slot,
-        macroflow,
-        granted: packet,
-        issued: time,
-        deadline: time + stream.life,
-        fate: Fate::Open,
-        sent: 0,
-        ended: 0,
-        taken: false,
-    };
+    rows[grant] = Row::open(slot, macroflow, packet, time, time + stream.life);
     let s = &mut core.streams[slot];
     s.waiting -= 1;
     s.reserved += packet;

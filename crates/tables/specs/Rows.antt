@@ -4,12 +4,12 @@
 --   is-open f           whether a fate is that of a grant that has not ended
 --   is-due t r          an open row whose deadline is not after t
 --   due-upto r s        the order of expiry: the earlier deadline, then the lower slot
---   issued-row …        the row of a new grant
+--   open-row i f p t e  a grant of p bytes to the slot i in the macroflow f, issued at t, with the deadline e
 --   taken-up r          with its ticket given out
 --   settled-row r n t   settled at t with n bytes sent: charged, or returned where n is 0
 --   expired-row r t     expired at t
 use mathlib.Core.Bool.{Bool, true, false, cond, _&&_, _||_}
-use Prim.Native.Nat.{ℕ, _+_}
+use Prim.Native.Nat.{ℕ}
 use lib.Dec.{eqb, ltb, leb}
 use Rattle.tables.specs.declared.row.Row.{Row}
 use Rattle.tables.specs.declared.row.Fate.{Fate}
@@ -36,9 +36,8 @@ is-due t r = is-open (r .fate) && leb (r .deadline) t
 abbrev pub due-upto : Row → Row → Bool
 due-upto r s = ltb (r .deadline) (s .deadline) || (eqb (r .deadline) (s .deadline) && leb (r .slot) (s .slot))
 
--- a grant of p bytes to the slot i in the macroflow f at the time t, which lasts for l
-abbrev pub issued-row : ℕ → ℕ → ℕ → ℕ → ℕ → Row
-issued-row i f p t l = record { slot = i; macroflow = f; granted = p; issued = t; deadline = t + l; fate = Open; sent = 0; ended = 0; taken = false }
+abbrev pub open-row : ℕ → ℕ → ℕ → ℕ → ℕ → Row
+open-row i f p t e = record { slot = i; macroflow = f; granted = p; issued = t; deadline = e; fate = Open; sent = 0; ended = 0; taken = false }
 
 abbrev pub taken-up : Row → Row
 taken-up r = record {

@@ -1,6 +1,6 @@
 //! The rows of the ledger.
 ghost use mathlib.Core.Path.{_≡_};
-ghost use Rattle.tables.specs.Rows.{fate-number, blank-row, is-due, due-upto, is-open as is-open-fate};
+ghost use Rattle.tables.specs.Rows.{fate-number, blank-row, open-row, is-due, due-upto, is-open as is-open-fate};
 use least::Ranking;
 
 /// What became of a grant.
@@ -63,6 +63,20 @@ impl Row {
             sent: 0,
             ended: 0,
             taken: false,
+        }
+    }
+
+    /// The row of a new grant.
+    pub fn open(slot: usize, macroflow: usize, granted: u64, issued: u64, deadline: u64) -> Row
+        ensures { λ r. ⌜ r ≡ open-row slot macroflow granted issued deadline ⌝ }
+    {
+        Row {
+            slot,
+            macroflow,
+            granted,
+            issued,
+            deadline,
+            ..Row::blank()
         }
     }
 

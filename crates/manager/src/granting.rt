@@ -79,7 +79,7 @@ impl Manager {
         ensures refused { λ r. ⌜ refused r (λ _. (now (self .exit) ≡ now (self .entry)) × (now (rows .exit) ≡ now (rows .entry))) ⌝ }
     {
         let Ticket { grant } = ticket;
-        grant_calls::settle(&mut self.core, rows, time, grant, sent)
+        self.settle(rows, time, grant, sent)
     }
 
     /// Ends the open grant that is due, if there is one.

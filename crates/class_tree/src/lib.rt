@@ -7,3 +7,17 @@ mod worked;
 pub use class_tree::ClassTree;
 pub use state::ClassTreeState;
 pub use worked::eight_to_four;
+
+#[cfg(test)]
+mod tests {
+    use super::*;
+
+    #[test]
+    fn worked_values(rt: HostRuntime) {
+        let mut expected = [Some(0); 12];
+        for i in 8..12 {
+            expected[i] = Some(8);
+        }
+        assert_eq!(rt; eight_to_four(), expected);
+    }
+}

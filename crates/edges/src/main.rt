@@ -1,38 +1,25 @@
 //! The edges of a congestion manager: limits that pass and one more that does not, every refusal, and
 //! tables that the host rewrote. Each case is tried on a real manager and printed with its answer.
+mod answer;
 mod bench;
+mod fixture;
+mod grants;
+mod hostile;
 mod limits;
-mod play;
-mod step;
-mod told;
+mod making;
+mod rate;
+mod refusals;
+mod streams;
 
-use class_tree::ClassTree;
-use controllers::{ByteAimd, RateController};
-use schedulers::RoundRobin;
-use std::io;
-use step::Section;
+use fixture::{Halt, PACKET};
 
-/// The packet size of every controller on the bench, in bytes.
-const PACKET: u64 = 1_000;
-
-/// The sections
-const ALL: [&[Section]; 1] = [limits::SECTIONS];
-
-fn main(rt: HostRuntime) -> io::Result<()> {
+fn main(rt: HostRuntime) -> Result<(), Halt> {
     println!(rt; "The edges of a congestion manager (packets of {PACKET} bytes)")?;
-    let Ok(aimd) = ByteAimd::new(PACKET) else {
-        return println!(rt; "No controller was made");
-    };
-    let Ok(rate) = RateController::new(PACKET) else {
-        return println!(rt; "No controller was made");
-    };
-    for sections in ALL {
-        for section in sections {
-            section.play(&rt, aimd, RoundRobin::<32>::new())?;
-        }
-    }
-    for section in limits::SECTIONS {
-        section.play(&rt, rate, ClassTree::new())?;
-    }
-    Ok(())
+    making::try_all(&rt)?;
+    limits::try_all(&rt)?;
+    refusals::try_all(&rt)?;
+    hostile::try_all(&rt)?;
+    grants::try_all(&rt)?;
+    streams::try_all(&rt)?;
+    rate::try_all(&rt)
 }

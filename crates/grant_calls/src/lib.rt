@@ -1,7 +1,9 @@
-//! The calls about grants that were issued: take_up, settle, expire.
+//! The calls about grants: poll, take_up, settle, expire.
 mod expiring;
 mod finding;
+mod polling;
 mod settling;
 
 pub use expiring::expire;
+pub use polling::{Polled, poll};
 pub use settling::{settle, take_up};

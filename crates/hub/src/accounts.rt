@@ -1,8 +1,10 @@
 //! What the owners and the service crew read after the day: the ledger, the bill, the records' fate.
-use crate::farm::{COUNT, clock, path_name, stream_name};
-use manager::Manager;
+use crate::farm::{Farm, clock, name_of};
 use std::io;
 use tables::{Fate, Row, Stream};
+
+/// How many slots the farm uses.
+const STREAMS: usize = 9;
 
 fn fate_word(fate: Fate) -> &'static str {
     match fate {
@@ -13,13 +15,12 @@ fn fate_word(fate: Fate) -> &'static str {
     }
 }
 
-fn show_row(rt: &impl Print, grant: usize, row: &Row) -> io::Result<()> {
-    let path = path_name(row.macroflow);
-    let name = stream_name(row.slot);
+fn show_row(rt: &impl Print, grant: usize, row: Row) -> io::Result<()> {
+    let name = name_of(row.slot);
     let granted = row.granted;
     let sent = row.sent;
     let fate = fate_word(row.fate);
-    print!(rt; "{grant:>5}  {path:<5}  {name:<18}  {granted:>5}  {sent:>5}  {fate:<8}  ")?;
+    print!(rt; "{grant:>5}  {name:<18}  {granted:>5}  {sent:>5}  {fate:<8}  ")?;
     clock(rt, row.issued)?;
     print!(rt; "  ")?;
     if row.is_open() {
@@ -30,19 +31,19 @@ fn show_row(rt: &impl Print, grant: usize, row: &Row) -> io::Result<()> {
 }
 
 /// Prints the ledger: a line for each grant.
-pub fn ledger(rt: &impl Print, manager: &Manager, rows: &[Row]) -> io::Result<()> {
+pub fn ledger(rt: &impl Print, farm: &Farm) -> io::Result<()> {
     println!(rt; "")?;
     println!(rt; "The ledger")?;
-    println!(rt; "grant  path   stream              bytes   sent  fate        issued     ended")?;
-    for (grant, row) in rows.iter().take(manager.issued()).enumerate() {
-        show_row(rt, grant, row)?;
+    println!(rt; "grant  stream              bytes   sent  fate        issued     ended")?;
+    for grant in 0..farm.manager.issued() {
+        show_row(rt, grant, farm.row(grant))?;
     }
     Ok(())
 }
 
 /// The record of a slot of the farm.
-fn record(manager: &Manager, slot: usize) -> Stream {
-    match manager.standing(slot) {
+fn stream(farm: &Farm, slot: usize) -> Stream {
+    match farm.manager.standing(slot) {
         Ok(stream) => stream,
         Err(_) => Stream::closed(),
     }
@@ -59,21 +60,21 @@ fn tenths(part: u64, whole: u64) -> u64 {
 
 /// Prints the bill: the bytes charged to each stream, and its share. The shares add up to the whole:
 /// each is what the sum up to the stream has more than the sum before it.
-pub fn bill(rt: &impl Print, manager: &Manager) -> io::Result<()> {
+pub fn bill(rt: &impl Print, farm: &Farm) -> io::Result<()> {
     println!(rt; "")?;
     println!(rt; "The bill")?;
     println!(rt; "stream              charged   share")?;
     let mut whole: u64 = 0;
-    for slot in 0..COUNT {
-        whole = whole.saturating_add(record(manager, slot).charged);
+    for slot in 0..STREAMS {
+        whole = whole.saturating_add(stream(farm, slot).charged);
     }
     let mut before: u64 = 0;
-    for slot in 0..COUNT {
-        let charged = record(manager, slot).charged;
+    for slot in 0..STREAMS {
+        let charged = stream(farm, slot).charged;
         let after = before.saturating_add(charged);
         let share = tenths(after, whole).saturating_sub(tenths(before, whole));
         before = after;
-        let name = stream_name(slot);
+        let name = name_of(slot);
         let percent = share / 10;
         let rest = share % 10;
         println!(rt; "{name:<18}  {charged:>7}  {percent:>3}.{rest}%")?;
@@ -83,33 +84,30 @@ pub fn bill(rt: &impl Print, manager: &Manager) -> io::Result<()> {
 }
 
 /// Prints what the crew should know: whose records came through, and whose did not.
-pub fn crew(rt: &impl Print, manager: &Manager) -> io::Result<()> {
+pub fn crew(rt: &impl Print, farm: &Farm) -> io::Result<()> {
     println!(rt; "")?;
     println!(rt; "For the crew: bytes of records by what became of them")?;
-    println!(rt;
-        "stream              path     through   lost  abandoned  still out  open  waiting"
-    )?;
-    for slot in 0..COUNT {
+    println!(rt; "stream              through   lost  abandoned  still out  open  waiting")?;
+    for slot in 0..STREAMS {
         let Stream {
-            opened,
-            macroflow,
-            waiting,
-            reserved,
-            outstanding,
             received,
             lost,
             abandoned,
+            outstanding,
+            reserved,
+            waiting,
             ..
-        } = record(manager, slot);
-        let name = stream_name(slot);
-        let path = if opened {
-            path_name(macroflow)
-        } else {
-            "closed"
-        };
+        } = stream(farm, slot);
+        let name = name_of(slot);
         println!(rt;
-            "{name:<18}  {path:<6}  {received:>8}  {lost:>5}  {abandoned:>9}  {outstanding:>9}  {reserved:>4}  {waiting:>7}"
+            "{name:<18}  {received:>7}  {lost:>5}  {abandoned:>9}  {outstanding:>9}  {reserved:>4}  {waiting:>7}"
         )?;
     }
-    Ok(())
+    match farm.manager.quietest() {
+        Some(slot) => {
+            let name = name_of(slot);
+            println!(rt; "Quiet for longest: {name}")
+        }
+        None => println!(rt; "No stream is open"),
+    }
 }

@@ -1,22 +1,22 @@
-//! The farm: its streams, its two radio paths, and what happens on a day as calls of the manager.
-use manager::Call;
-use report_calls::Feedback;
+//! A farm's day: six turbines put the records of their pitch, bearings and brakes onto one radio
+//! path, and the manager shares it out.
+use controllers::ByteAimd;
+use grant_calls::Polled;
+use manager::Manager;
+use meaning::{Controller, Refusal};
+use schedulers::RoundRobin;
 use std::io;
-
-/// The packet size of the farm's radio paths in bytes.
-pub const PACKET: u64 = 1_200;
-
-/// The number of radio paths: each is a macroflow.
-pub const PATHS: usize = 2;
+use stream_calls::Feedback;
+use tables::Row;
 
 /// The microseconds of a second.
 const SECOND: u64 = 1_000_000;
 
-/// How long a grant of the farm's streams lasts: 30 seconds.
-const LIFE: u64 = 30_000_000;
+/// How long a grant of the farm's streams lasts.
+const LIFE: u64 = 30 * SECOND;
 
 /// The streams of the farm, by slot.
-const STREAMS: [&str; 9] = [
+const NAMES: [&str; 9] = [
     "turbine 1 pitch",
     "turbine 1 bearing",
     "turbine 2 pitch",
@@ -28,24 +28,12 @@ const STREAMS: [&str; 9] = [
     "turbine 6 bearing",
 ];
 
-/// The number of streams.
-pub const COUNT: usize = 9;
-
 /// The name of the stream in a slot.
-pub fn stream_name(slot: usize) -> &'static str {
-    if slot < COUNT {
-        STREAMS[slot]
+pub fn name_of(slot: usize) -> &'static str {
+    if slot < NAMES.len() {
+        NAMES[slot]
     } else {
         "no stream"
-    }
-}
-
-/// The name of a radio path.
-pub fn path_name(macroflow: usize) -> &'static str {
-    match macroflow {
-        0 => "north",
-        1 => "south",
-        _ => "no path",
     }
 }
 
@@ -60,80 +48,94 @@ pub fn clock(rt: &impl Print, time: u64) -> io::Result<()> {
 
 /// One thing that happens on the farm.
 #[derive(Clone, Copy)]
-pub enum Event {
-    /// A stream is opened: its slot, its path and its weight.
-    Open(usize, usize, u64),
-    /// A stream has a packet of records to send.
-    Request(usize),
-    /// A path is asked for its next grant.
-    Poll(usize),
-    /// A sender has sent these bytes of a grant.
-    Settle(usize, u64),
-    /// The hub looks for a grant that nobody settled.
+pub enum Step {
+    Open { slot: usize, weight: u64 },
+    Request { slot: usize },
+    Poll,
+    Settle { grant: usize, sent: u64 },
     Expire,
-    /// Bytes of a stream came through, with a round-trip sample in microseconds or 0.
-    Clear(usize, u64, u64),
-    /// Bytes of a stream came through, and bytes were lost.
-    Loss(usize, u64, u64),
-    /// Bytes of a stream came through, marked by the network.
-    Mark(usize, u64),
-    /// Nothing is heard of these bytes of a stream.
-    Silence(usize, u64),
-    /// A stream goes to another path.
-    Move(usize, usize),
-    /// All streams of a path go to another.
-    Merge(usize, usize),
-    /// A stream is closed.
-    Close(usize),
+    Report { slot: usize, feedback: Feedback },
+    Close { slot: usize },
 }
 
-/// A report of a stream.
-fn report(
-    time: u64,
-    slot: usize,
-    mode: u64,
-    received: u64,
-    lost: u64,
-    sample: Option<u64>,
-) -> Call {
-    Call::Report {
-        time,
-        slot,
-        feedback: Feedback {
-            received,
-            lost,
-            mode,
-            sample,
-        },
+/// What the manager told.
+#[derive(Clone, Copy)]
+pub enum Told {
+    Done,
+    Granted(usize),
+    NoneWaits,
+    NoFit,
+    Expired(usize),
+    NoneDue,
+}
+
+/// The farm: its manager, and the tables that the manager is lent.
+#[derive(Drop)]
+pub struct Farm {
+    pub manager: Manager,
+    pub controllers: [ByteAimd; 1],
+    pub schedulers: [RoundRobin<32>; 1],
+    pub rows: [Row; 32],
+}
+
+impl Farm {
+    /// A farm with packets of this size.
+    pub fn new(packet: u64) -> Result<Farm, Refusal> {
+        let controllers = [ByteAimd::new(packet)?];
+        let schedulers = [RoundRobin::new()];
+        let rows = [Row::blank(); 32];
+        let manager = Manager::new(1, &controllers, &schedulers, &rows)?;
+        Ok(Farm {
+            manager,
+            controllers,
+            schedulers,
+            rows,
+        })
     }
-}
 
-/// What happens at a time of day, given in seconds, as a call of the manager.
-pub fn call(seconds: u64, event: Event) -> Call {
-    let time = seconds.saturating_mul(SECOND);
-    match event {
-        Event::Open(slot, macroflow, weight) => Call::Open {
+    /// Lets one thing happen.
+    pub fn carry_out(&mut self, time: u64, step: Step) -> Result<Told, Refusal> {
+        match step {
+            Step::Open { slot, weight } => self.manager.open(time, slot, 0, weight, LIFE)?,
+            Step::Request { slot } => self.manager.request(&mut self.schedulers, time, slot)?,
+            Step::Poll => return self.poll(time),
+            Step::Settle { grant, sent } => self.manager.settle(&mut self.rows, time, grant, sent)?,
+            Step::Expire => return self.expire(time),
+            Step::Report { slot, feedback } => self
+                .manager
+                .report(&mut self.controllers, time, slot, feedback)?,
+            Step::Close { slot } => self.manager.close(&mut self.schedulers, time, slot)?,
+        }
+        Ok(Told::Done)
+    }
+
+    fn poll(&mut self, time: u64) -> Result<Told, Refusal> {
+        match self.manager.poll(
+            &self.controllers,
+            &mut self.schedulers,
+            &mut self.rows,
             time,
-            slot,
-            macroflow,
-            weight,
-            life: LIFE,
-        },
-        Event::Request(slot) => Call::Request { time, slot },
-        Event::Poll(macroflow) => Call::Poll { time, macroflow },
-        Event::Settle(grant, sent) => Call::Settle { time, grant, sent },
-        Event::Expire => Call::Expire { time },
-        Event::Clear(slot, received, 0) => report(time, slot, 0, received, 0, None),
-        Event::Clear(slot, received, micros) => report(time, slot, 0, received, 0, Some(micros)),
-        Event::Loss(slot, received, lost) => report(time, slot, 1, received, lost, None),
-        Event::Mark(slot, received) => report(time, slot, 2, received, 0, None),
-        Event::Silence(slot, lost) => report(time, slot, 3, 0, lost, None),
-        Event::Move(slot, macroflow) => Call::Move {
-            time,
-            slot,
-            macroflow,
-        },
-        Event::Merge(from, into) => Call::Merge { time, from, into },
-        Event::Close(slot) => Call::Close { time, slot },
+            0,
+        )? {
+            Polled::Granted(grant) => Ok(Told::Granted(grant)),
+            Polled::NoneWaits => Ok(Told::NoneWaits),
+            Polled::NoFit => Ok(Told::NoFit),
+        }
+    }
+
+    fn expire(&mut self, time: u64) -> Result<Told, Refusal> {
+        match self.manager.expire(&mut self.rows, time)? {
+            Some(grant) => Ok(Told::Expired(grant)),
+            None => Ok(Told::NoneDue),
+        }
+    }
+
+    /// The row of a grant, blank where there is none.
+    pub fn row(&self, grant: usize) -> Row {
+        if grant < 32 {
+            self.rows[grant]
+        } else {
+            Row::blank()
+        }
     }
 }

@@ -1,8 +1,8 @@
-//! The first record by a total order, over a lent slice.
+//! One search for the first record by a total order, over a lent slice.
 ghost use Rattle.std.specs.Prelude.{◌≡◌, ℕ, suc, ◌<◌, Bool, true, length, take};
 ghost use Rattle.least.specs.Order.{Order, Least, first_least};
 
-/// Who of some records takes part, and in which order they come.
+/// Who of some records takes part in a search, and in which order they come.
 ///
 /// The order is total: of two records one comes no later than the other, and what comes no later
 /// than a record that comes no later than a third comes no later than the third.

@@ -1,4 +1,2 @@
-pub mod State
 pub mod Making
 pub mod Tickets
-pub mod Steps

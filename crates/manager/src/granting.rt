@@ -2,13 +2,13 @@
 ghost use Rattle.std.specs.Prelude.{◌≡◌, OnErr};
 ghost use Rattle.tables.specs.Replies.{reply};
 ghost use Rattle.grant_calls.specs.Grants.{take_up as take_up_call, settle as settle_call, expire as expire_call};
-ghost use Rattle.poll_calls.specs.Polls.{poll as poll_call};
+ghost use Rattle.grant_calls.specs.Polls.{poll as poll_call};
 ghost use Rattle.manager.specs.Tickets.{numbered};
 
 use crate::manager_state::Manager;
 use crate::ticket::Ticket;
+use grant_calls::Polled;
 use meaning::{Controller, Refusal, Scheduler};
-use poll_calls::Polled;
 use tables::Row;
 
 impl Manager {
@@ -31,7 +31,7 @@ impl Manager {
         ensures plain { reply result self.new.core (schedulers.new, rows.new) ≡ poll_call control scheduling self.old.core controllers.now schedulers.old rows.old time macroflow }
         ensures refused { OnErr result ((self.new ≡ self.old) × (schedulers.new ≡ schedulers.old) × (rows.new ≡ rows.old)) }
     {
-        poll_calls::poll(
+        grant_calls::poll(
             &mut self.core,
             controllers,
             schedulers,

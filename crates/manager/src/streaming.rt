@@ -1,13 +1,11 @@
-//! The calls about streams.
+//! The calls about one stream.
 ghost use Rattle.std.specs.Prelude.{◌≡◌, OnErr};
 ghost use Rattle.tables.specs.Replies.{reply};
-ghost use Rattle.move_calls.specs.Moves.{move_to as move_call, merge as merge_call};
-ghost use Rattle.report_calls.specs.Reports.{report as report_call};
-ghost use Rattle.stream_calls.specs.Calls.{«open» as open_call, request as request_call, close as close_call, standing as standing_call, longest_quiet};
+ghost use Rattle.stream_calls.specs.Calls.{«open» as open_call, request as request_call, report as report_call, move_to as move_call, close as close_call, standing as standing_call, quietest as quietest_call};
 
 use crate::manager_state::Manager;
 use meaning::{Controller, Refusal, Scheduler};
-use report_calls::Feedback;
+use stream_calls::Feedback;
 use tables::Stream;
 
 impl Manager {
@@ -50,7 +48,7 @@ impl Manager {
         ensures plain { reply result self.new.core controllers.new ≡ report_call control self.old.core controllers.old time slot feedback }
         ensures refused { OnErr result ((self.new ≡ self.old) × (controllers.new ≡ controllers.old)) }
     {
-        report_calls::report(&mut self.core, controllers, time, slot, feedback)
+        stream_calls::report(&mut self.core, controllers, time, slot, feedback)
     }
 
     /// Moves a stream to another macroflow, with all its numbers.
@@ -64,22 +62,7 @@ impl Manager {
         ensures plain { reply result self.new.core schedulers.new ≡ move_call scheduling self.old.core schedulers.old time slot macroflow }
         ensures refused { OnErr result ((self.new ≡ self.old) × (schedulers.new ≡ schedulers.old)) }
     {
-        move_calls::move_to(&mut self.core, schedulers, time, slot, macroflow)
-    }
-
-    /// Merges a macroflow into another: every stream that is open in the first moves, the lowest slot
-    /// first.
-    pub fn merge<S: Scheduler>(
-        &mut self,
-        schedulers: &mut [S],
-        time: u64,
-        from: usize,
-        into: usize,
-    ) -> Result<(), Refusal>
-        ensures plain { reply result self.new.core schedulers.new ≡ merge_call scheduling self.old.core schedulers.old time from into }
-        ensures refused { OnErr result ((self.new ≡ self.old) × (schedulers.new ≡ schedulers.old)) }
-    {
-        move_calls::merge(&mut self.core, schedulers, time, from, into)
+        stream_calls::move_to(&mut self.core, schedulers, time, slot, macroflow)
     }
 
     /// Closes a stream: its waiting requests are dropped, and what is outstanding counts as abandoned.
@@ -104,8 +87,8 @@ impl Manager {
 
     /// The open slot that has been quiet for longest, and of those equally long the lowest.
     pub fn quietest(&self) -> Option<usize>
-        ensures { result ≡ longest_quiet self.now.core }
+        ensures { result ≡ quietest_call self.now.core }
     {
-        stream_calls::longest_quiet(&self.core)
+        stream_calls::quietest(&self.core)
     }
 }

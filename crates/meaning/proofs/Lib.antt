@@ -1,7 +1,6 @@
 pub mod AnyBelow
 pub mod Below
 pub mod Estimates
-pub mod Folding
 pub mod Hearing
 pub mod PicksInARow
 pub mod Telling

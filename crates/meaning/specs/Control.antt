@@ -6,7 +6,6 @@
 use Rattle.std.specs.Prelude.{◌≡◌, ℕ, ◌≤◌, Bool, true, false, cond, List, [], ◌∷◌, Option}
 use Rattle.meaning.specs.declared.path.PathEstimate.{PathEstimate}
 use Rattle.meaning.specs.declared.report.Report.{Report}
-use Rattle.meaning.specs.Folds.{all_done}
 use Rattle.meaning.specs.Paths.{path_after}
 use Rattle.meaning.specs.Reports.{in_range}
 
@@ -34,7 +33,8 @@ pub record ControlLaws {C : Type 0} (k : Control C) : Type 0 where
   pub ignores : (c : C) (r : Report) → in_range r ≡ false → k.told c r ≡ c
 
 abbrev pub told_all : {C : Type 0} → Control C → C → List Report → C
-told_all k c rs = all_done k.told c rs
+told_all k c [] = c
+told_all k c (r ∷ rs) = told_all k (k.told c r) rs
 
 abbrev pub paths_after : Option PathEstimate → List Report → Option PathEstimate
 paths_after p [] = p

@@ -1,4 +1,3 @@
-pub mod Folds
 pub mod Below
 pub mod Paths
 pub mod Reports

@@ -1,12 +1,12 @@
 -- The rule leads from sound states to sound states.
 --   place_after_below   the place after one of n places is one of them
---   first_below         so is the first place that waits
+--   first_below         so is a place that a search finds
 --   set_most            a list of numbers of at most b stays one when such a number is written into it
 --   with_weight_sound   a sound state stays sound with another weight of 8 at most,
 --   raised_sound        after a raise,
 --   lowered_sound       after a lower,
 --   spent_sound         with one credit less,
---   turn_to_sound       after the turn went on
+--   after_search_sound  after a search
 --   turned_sound        and after a pick
 --   all_zero            no place of a fresh state has a weight
 --   fresh_sound         a fresh state is sound
@@ -16,7 +16,7 @@ use Rattle.std.proofs.lemmas.List.{length-replicate}
 use Rattle.std.proofs.lemmas.Bool.{cond_both, and_parts, leb-true, eqb-false}
 use Rattle.schedulers.specs.declared.state.RoundRobinState.{RoundRobinState}
 use Rattle.schedulers.specs.Sound.{Sound}
-use Rattle.schedulers.specs.Rule.{place_after, first_waiting, is_weight, waits, with_weight, raised, lowered, goes_on, next_waiting, spent, turn_to, turned, fresh}
+use Rattle.schedulers.specs.Rule.{place_after, first_waiting, is_weight, waits, with_weight, raised, lowered, goes_on, next_waiting, spent, after_search, turned, fresh}
 
 pub place_after_below : (n p : ℕ) → p < n → place_after n p < n
 place_after_below n p h = cond_both (p + 1 == n) 0 (p + 1) (λ x. x < n) (λ e. omega arith) (λ e. omega (arith, eqb-false (p + 1) n e))
@@ -54,14 +54,14 @@ module _ {N : ℕ} (s : RoundRobinState N) (sound : Sound N s) where
   spent_sound : Sound N (spent s)
   spent_sound = (sound.0, sound.1, omega (arith, sound.2), sound.3)
 
-  turn_to_sound : (o : Option ℕ) → next_waiting s ≡ o → Sound N (turn_to s o)
-  turn_to_sound (Some i) e =
+  after_search_sound : (o : Option ℕ) → next_waiting s ≡ o → Sound N (after_search s o)
+  after_search_sound (Some i) e =
       let below : i < N = first_below s.weights N N s.turn i sound.1 (omega arith) e in
       (sound.0, omega arith, omega (arith, sound.3 i), sound.3)
-  turn_to_sound None e = sound
+  after_search_sound None e = sound
 
   pub turned_sound : Sound N (turned s)
-  turned_sound = cond_both (goes_on s) (spent s) (turn_to s (next_waiting s)) (λ x. Sound N x) (λ _. spent_sound) (λ _. turn_to_sound (next_waiting s) refl)
+  turned_sound = cond_both (goes_on s) (spent s) (after_search s (next_waiting s)) (λ x. Sound N x) (λ _. spent_sound) (λ _. after_search_sound (next_waiting s) refl)
 
 pub all_zero : (n k : ℕ) → ◌≡◌ {A = ℕ} (slice_index (replicate n 0) k) 0
 all_zero zero k = refl

@@ -13,7 +13,7 @@
 --   chosen         what a pick answers: the turn's place while it goes on, else the next place that waits
 --   spent          the state with one credit less
 --   taken_by       place i becomes the turn, with credit its weight less 1
---   turn_to        the state after the turn went to a place, or to none
+--   after_search   the state after a search that found a place, or none
 --   turned         the state after a pick
 --   patience       the patience of place i, which is (i - turn) mod N places after the turn
 --   fresh          no place waits, the turn is the last place, and there is no credit
@@ -66,12 +66,12 @@ module _ {N : ℕ} (s : RoundRobinState N) where
   abbrev pub taken_by : ℕ → RoundRobinState N
   taken_by i = record { turn = i; credit = weight_of i - 1; weights = s.weights }
 
-  abbrev pub turn_to : Option ℕ → RoundRobinState N
-  turn_to (Some i) = taken_by i
-  turn_to None = s
+  abbrev pub after_search : Option ℕ → RoundRobinState N
+  after_search (Some i) = taken_by i
+  after_search None = s
 
   abbrev pub turned : RoundRobinState N
-  turned = cond goes_on spent (turn_to next_waiting)
+  turned = cond goes_on spent (after_search next_waiting)
 
   abbrev pub patience : ℕ → ℕ
   patience i = patience_at N ((i + N - s.turn) % N) s.credit

@@ -10,7 +10,7 @@ use Rattle.std.proofs.lemmas.Bool.{cond-true, cond-false, ltb-true, lt-ltb, le-l
 use Rattle.std.proofs.lemmas.Bool.Decides.{nat_tests}
 use Rattle.schedulers.specs.declared.state.RoundRobinState.{RoundRobinState}
 use Rattle.schedulers.specs.Sound.{Sound}
-use Rattle.schedulers.specs.Rule.{is_weight, weight_of, waits, with_weight, raised, lowered, goes_on, next_waiting, chosen, spent, taken_by, turn_to, turned}
+use Rattle.schedulers.specs.Rule.{is_weight, weight_of, waits, with_weight, raised, lowered, goes_on, next_waiting, chosen, spent, taken_by, after_search, turned}
 
 module _ {N : ℕ} (s : RoundRobinState N) where
   abbrev pub with_weights : List ℕ → RoundRobinState N
@@ -45,11 +45,11 @@ module _ {N : ℕ} (s : RoundRobinState N) where
       → P (chosen s) (turned s)
   by_pick P again found none = either (goes_on s) refl
     where
-      searched : goes_on s ≡ false → (o : Option ℕ) → next_waiting s ≡ o → P o (turn_to s o)
+      searched : goes_on s ≡ false → (o : Option ℕ) → next_waiting s ≡ o → P o (after_search s o)
       searched h (Some i) e = found i h e
       searched h None e = none h e
 
-      either : (c : Bool) → goes_on s ≡ c → P (cond c (Some s.turn) (next_waiting s)) (cond c (spent s) (turn_to s (next_waiting s)))
+      either : (c : Bool) → goes_on s ≡ c → P (cond c (Some s.turn) (next_waiting s)) (cond c (spent s) (after_search s (next_waiting s)))
       either true h = again h
       either false h = searched h (next_waiting s) refl
 

@@ -1,8 +1,8 @@
 //! The radio path of a turbine, as its senders see it: they ask for grants and settle tickets.
 use controllers::ByteAimd;
+use grant_calls::Polled;
 use manager::{Manager, Ticket};
 use meaning::Refusal;
-use poll_calls::Polled;
 use schedulers::RoundRobin;
 use tables::Row;
 

@@ -1,6 +1,6 @@
 //! What can be asked of the records.
 ghost use Rattle.std.specs.Prelude.{◌≡◌};
-ghost use Rattle.stream_calls.specs.Calls.{standing as standing_call, longest_quiet};
+ghost use Rattle.stream_calls.specs.Calls.{standing as standing_call, quietest as quietest_call};
 
 use least::least;
 use meaning::Refusal;
@@ -17,8 +17,8 @@ pub fn standing(core: &Core, slot: usize) -> Result<Stream, Refusal>
 }
 
 /// The open slot with the earliest quiet-since time, and of those with the same the lowest.
-pub fn longest_quiet(core: &Core) -> Option<usize>
-    ensures { result ≡ longest_quiet core.now }
+pub fn quietest(core: &Core) -> Option<usize>
+    ensures { result ≡ quietest_call core.now }
 {
     least(&Quiet, &core.streams)
 }

@@ -3,8 +3,9 @@ ghost use Rattle.std.specs.Prelude.{◌≡◌, OnErr};
 ghost use Rattle.tables.specs.Replies.{reply};
 ghost use Rattle.stream_calls.specs.Calls.{close as close_call};
 
+use crate::telling::lower;
 use meaning::{Refusal, Scheduler};
-use tables::{Core, SLOTS, lower_in, sum_fits};
+use tables::{Core, SLOTS, sum_fits};
 
 /// Closes a stream: its waiting requests are dropped, and what is outstanding counts as abandoned.
 pub fn close<S: Scheduler>(
@@ -38,7 +39,7 @@ pub fn close<S: Scheduler>(
     if !sum_fits(stream.abandoned, stream.outstanding) {
         return Err(core.about_slot(slot, 1));
     }
-    lower_in(schedulers, stream.macroflow, slot);
+    lower(schedulers, stream.macroflow, slot);
     let s = &mut core.streams[slot];
     s.opened = false;
     s.waiting = 0;

@@ -1,10 +1,15 @@
-//! The calls about one stream: open, request, close, and what can be asked of the records.
+//! The calls about one stream: open, request, report, close, and what can be asked of the records.
 mod asking;
 mod closing;
+mod moving;
 mod opening;
+mod reporting;
 mod requesting;
+mod telling;
 
-pub use asking::{longest_quiet, standing};
+pub use asking::{quietest, standing};
 pub use closing::close;
+pub use moving::move_to;
 pub use opening::open;
+pub use reporting::{Feedback, report};
 pub use requesting::request;

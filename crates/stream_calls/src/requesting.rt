@@ -3,8 +3,9 @@ ghost use Rattle.std.specs.Prelude.{◌≡◌, OnErr};
 ghost use Rattle.tables.specs.Replies.{reply};
 ghost use Rattle.stream_calls.specs.Calls.{request as request_call};
 
+use crate::telling::raise;
 use meaning::{Refusal, Scheduler};
-use tables::{Core, SLOTS, raise_in};
+use tables::{Core, SLOTS};
 
 /// The most requests of one stream that can wait.
 const MAX_WAITING: u64 = 255;
@@ -39,7 +40,7 @@ pub fn request<S: Scheduler>(
         return Err(core.about_slot(slot, 1));
     }
     if stream.waiting == 0 {
-        raise_in(schedulers, stream.macroflow, slot, stream.weight);
+        raise(schedulers, stream.macroflow, slot, stream.weight);
     }
     let s = &mut core.streams[slot];
     s.waiting += 1;

@@ -9,7 +9,6 @@
 --   about_macroflow m o f n      refusal n, about the macroflow f and the slot o if there is one
 --   about_nothing n              refusal n, about no slot and no macroflow
 --   at_time m t                  only the last time changes
---   with_stream m i s            the record of the slot i becomes s
 --   put m t i s                  the record of the slot i becomes s, at the time t
 use Rattle.std.specs.Prelude.{ℕ, Bool, true, false, cond, ◌&&◌, replicate, Some, None, Option, nat_le, nat_lt, slice_index_or, slice_set}
 use Rattle.meaning.specs.declared.refusal.Refusal.{Refusal}
@@ -51,8 +50,5 @@ about_nothing n = record { number = n; slot = None; macroflow = None }
 abbrev pub at_time : Core → ℕ → Core
 at_time m t = record { streams = m.streams; macroflows = m.macroflows; capacity = m.capacity; issued = m.issued; last = t }
 
-abbrev pub with_stream : Core → ℕ → Stream → Core
-with_stream m i s = record { streams = slice_set m.streams i s; macroflows = m.macroflows; capacity = m.capacity; issued = m.issued; last = m.last }
-
 abbrev pub put : Core → ℕ → ℕ → Stream → Core
-put m t i s = at_time (with_stream m i s) t
+put m t i s = record { streams = slice_set m.streams i s; macroflows = m.macroflows; capacity = m.capacity; issued = m.issued; last = t }

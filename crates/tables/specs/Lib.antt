@@ -4,4 +4,3 @@ pub mod Rows
 pub mod Core
 pub mod Sums
 pub mod Replies
-pub mod Lists

@@ -8,7 +8,7 @@ use meaning::Refusal;
 /// The number of slots.
 pub const SLOTS: usize = 32;
 
-/// The last time there can be, in microseconds.
+/// The latest time, in microseconds.
 pub const MAX_TIME: u64 = 1_000_000_000_000_000;
 
 /// The records of all slots, and the manager's counts.

@@ -1,14 +1,12 @@
 //! The tables of a congestion manager: the stream records, the ledger's rows, and the plain core
 //! that holds the records and the counts.
 mod core_state;
-mod lists;
 mod numbers;
 mod row;
 mod stream;
 mod sums;
 
 pub use core_state::{Core, MAX_TIME, SLOTS};
-pub use lists::{lower_in, raise_in, tell_in};
 pub use numbers::{difference_fits, sum_fits};
 pub use row::{Due, Fate, Row};
 pub use stream::{Quiet, Stream};

@@ -90,7 +90,7 @@ impl Row {
     }
 }
 
-/// Which grant is to expire at a time: the open rows take part whose deadline is not later,
+/// The search for a grant to expire at a time: the open rows take part whose deadline is not later,
 /// and the earlier deadline comes first, then the lower slot.
 #[derive(Clone, Copy)]
 pub struct Due {

@@ -101,7 +101,7 @@ impl Stream {
     }
 }
 
-/// Which stream has been quiet for longest: the open ones take part, and the
+/// The search for the stream that has been quiet for longest: the open ones take part, and the
 /// earlier time comes first.
 #[derive(Clone, Copy)]
 pub struct Quiet;

@@ -1,8 +1,6 @@
-//! A table of reports, and what both controllers make of them; and the picks of both schedulers.
-use class_tree::eight_to_four;
+//! A table of reports, and what both controllers make of them.
 use controllers::{ByteAimd, RateController};
 use meaning::{Controller, Report};
-use schedulers::{RoundRobin, two_to_one};
 use std::test::Fail;
 
 /// A report (received, lost, mode, sample, flight), and what it leaves: the window and threshold of
@@ -155,18 +153,4 @@ fn packets_out_of_range_are_refused(rt: HostRuntime) -> Result<(), Fail> {
     assert_eq!(rt; ByteAimd::new(64)?.allowance(), 256);
     assert_eq!(rt; ByteAimd::new(9_000)?.allowance(), 18_000);
     Ok(())
-}
-
-#[test]
-fn schedulers_pick_in_turn(rt: HostRuntime) {
-    assert_eq!(rt;
-        two_to_one(),
-        [Some(0), Some(0), Some(1), Some(0), Some(0), Some(1)]
-    );
-    assert_eq!(rt; RoundRobin::<0>::new().pick(), None, "no place");
-    let mut expected = [Some(0); 12];
-    for i in 8..12 {
-        expected[i] = Some(8);
-    }
-    assert_eq!(rt; eight_to_four(), expected);
 }

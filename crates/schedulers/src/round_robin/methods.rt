@@ -7,7 +7,7 @@ use super::RoundRobin;
 use crate::state::RoundRobinState;
 
 impl<const N: usize> RoundRobin<N> {
-    /// No place waits, there is no credit, and the first pick begins at place 0.
+    /// No place waits, there is no credit, and the first search begins at place 0.
     pub fn new() -> Self
         ensures { result ≡ fresh N }
     {

@@ -13,7 +13,7 @@ fn is_weight(weight: u64) -> bool
 }
 
 impl<const N: usize> RoundRobinState<N> {
-    /// No place waits, there is no credit, and it is the turn of place N - 1, so that the first pick begins at place 0.
+    /// No place waits, there is no credit, and it is the turn of place N - 1, so that the first search begins at place 0.
     pub(crate) fn fresh() -> Self
         ensures { result ≡ rule_fresh N }
     {

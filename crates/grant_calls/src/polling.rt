@@ -1,0 +1,142 @@
+//! A macroflow is asked for its next grant.
+ghost use Rattle.std.specs.Prelude.{◌≡◌, ◌+◌, ◌^◌, ◌<◌, ◌≤◌, length, None, OnErr, OnOk};
+ghost use Rattle.tables.specs.Core.{about_macroflow};
+ghost use Rattle.tables.specs.Replies.{reply, asked};
+ghost use Rattle.grant_calls.specs.Polls.{agrees as Agrees-on, can_get, granted, issued, poll_questions, poll as poll_call};
+
+use meaning::{Controller, Refusal, Scheduler};
+use tables::{Core, Row, SLOTS, difference_fits, sum_fits};
+
+/// What a poll comes to.
+#[derive(Clone, Copy, PartialEq, Eq, Debug)]
+pub enum Polled {
+    /// No stream of the macroflow waits.
+    NoneWaits,
+    /// One packet more would not fit the allowance.
+    NoFit,
+    /// A grant was issued, with this number.
+    Granted(usize),
+}
+
+/// The questions before a poll.
+fn ask_poll(
+    core: &Core,
+    controllers: usize,
+    schedulers: usize,
+    rows: usize,
+    time: u64,
+    macroflow: usize,
+) -> Result<(), Refusal>
+    ensures asked { result ≡ asked (poll_questions core.now controllers schedulers rows time macroflow) (about_macroflow core.now None macroflow) tt }
+    ensures facts { OnOk result ((macroflow < controllers) × (macroflow < schedulers) × (time ≤ 1000000000000000)) }
+{
+    if controllers != core.macroflows || schedulers != core.macroflows || rows != core.capacity {
+        return Err(core.about_macroflow(None, macroflow, 1));
+    }
+    if !core.is_timely(time) {
+        return Err(core.about_macroflow(None, macroflow, 2));
+    }
+    if macroflow >= core.macroflows {
+        return Err(core.about_macroflow(None, macroflow, 4));
+    }
+    Ok(())
+}
+
+/// Whether a scheduler and the records tell the same slots waiting in a macroflow.
+fn agrees<S: Scheduler>(core: &Core, scheduler: &S, macroflow: usize) -> bool
+    ensures { result ≡ Agrees-on scheduling core.now scheduler.now macroflow }
+{
+    for slot in 0..SLOTS {
+        if scheduler.is_waiting(slot) != core.streams[slot].waits_in(macroflow) {
+            return false;
+        }
+    }
+    true
+}
+
+/// Whether a slot can get a grant: it waits in the macroflow, and each number fits that would be
+/// written.
+fn can_get_grant(core: &Core, slot: usize, macroflow: usize, time: u64, packet: u64) -> bool
+    ensures { result ≡ can_get core.now slot macroflow time packet }
+{
+    slot < SLOTS
+        && core.streams[slot].waits_in(macroflow)
+        && sum_fits(time, core.streams[slot].life)
+        && difference_fits(core.streams[slot].waiting, 1)
+        && sum_fits(core.streams[slot].reserved, packet)
+}
+
+/// Issues the next grant to the slot that the scheduler picks.
+fn issue<S: Scheduler>(
+    core: &mut Core,
+    schedulers: &mut [S],
+    rows: &mut [Row],
+    time: u64,
+    macroflow: usize,
+    packet: u64,
+) -> Result<Polled, Refusal>
+    requires { macroflow < length schedulers.old }
+    ensures plain { reply result core.new (schedulers.new, rows.new) ≡ issued scheduling core.old schedulers.old rows.old time macroflow packet }
+    ensures refused { OnErr result ((core.new ≡ core.old) × (schedulers.new ≡ schedulers.old) × (rows.new ≡ rows.old)) }
+{
+    let grant = core.issued;
+    if grant >= rows.len() {
+        return Err(core.about_macroflow(None, macroflow, 9));
+    }
+    let mut scheduler = schedulers[macroflow];
+    if !agrees(core, &scheduler, macroflow) {
+        return Err(core.about_macroflow(None, macroflow, 1));
+    }
+    let Some(slot) = scheduler.pick() else {
+        return Err(core.about_macroflow(None, macroflow, 1));
+    };
+    if !can_get_grant(core, slot, macroflow, time, packet) {
+        return Err(core.about_macroflow(None, macroflow, 1));
+    }
+    let stream = core.streams[slot];
+    if stream.waiting == 1 {
+        scheduler.lower(slot);
+    }
+    schedulers[macroflow] = scheduler;
+    rows[grant] = Row::open(slot, macroflow, packet, time, time + stream.life);
+    let s = &mut core.streams[slot];
+    s.waiting -= 1;
+    s.reserved += packet;
+    core.issued += 1;
+    core.last = time;
+    Ok(Polled::Granted(grant))
+}
+
+/// Asks a macroflow for its next grant: none if by the records no slot waits there, or if one packet
+/// more than what is outstanding and open would not fit the allowance.
+pub fn poll<C: Controller, S: Scheduler>(
+    core: &mut Core,
+    controllers: &[C],
+    schedulers: &mut [S],
+    rows: &mut [Row],
+    time: u64,
+    macroflow: usize,
+) -> Result<Polled, Refusal>
+    ensures plain { reply result core.new (schedulers.new, rows.new) ≡ poll_call control scheduling core.old controllers.now schedulers.old rows.old time macroflow }
+    ensures refused { OnErr result ((core.new ≡ core.old) × (schedulers.new ≡ schedulers.old) × (rows.new ≡ rows.old)) }
+{
+    ask_poll(
+        core,
+        controllers.len(),
+        schedulers.len(),
+        rows.len(),
+        time,
+        macroflow,
+    )?;
+    if !core.someone_waits(macroflow) {
+        core.last = time;
+        return Ok(Polled::NoneWaits);
+    }
+    let controller = controllers[macroflow];
+    let packet = controller.packet();
+    if core.load(macroflow) + packet as u128 > controller.allowance() as u128 {
+        core.last = time;
+        return Ok(Polled::NoFit);
+    }
+    issue(core, schedulers, rows, time, macroflow, packet)
+}

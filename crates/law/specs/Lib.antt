@@ -1,5 +1,0 @@
-pub mod Effects
-pub mod Slots
-pub mod History
-pub mod Law
-pub mod Runs

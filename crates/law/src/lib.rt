@@ -1,1 +1,0 @@
-//! The history of a run of calls, and the law that every run keeps.

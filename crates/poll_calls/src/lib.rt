@@ -1,4 +1,0 @@
-//! The poll of a macroflow.
-mod polling;
-
-pub use polling::{Polled, poll};

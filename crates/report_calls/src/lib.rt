@@ -1,4 +1,0 @@
-//! The report of a stream.
-mod reporting;
-
-pub use reporting::{Feedback, report};

@@ -1,6 +1,0 @@
-//! Runs of calls from a fresh manager, and the law that every run keeps.
-mod outcome;
-mod running;
-
-pub use outcome::{Outcome, RunError};
-pub use running::run;

@@ -1,0 +1,60 @@
+//! A stream goes to another macroflow.
+ghost use Rattle.std.specs.Prelude.{◌≡◌, ◌<◌, length, OnErr};
+ghost use Rattle.tables.specs.Replies.{reply};
+ghost use Rattle.stream_calls.specs.Calls.{passed_on, move_to as move_call};
+
+use crate::telling::{lower, raise};
+use meaning::{Refusal, Scheduler};
+use tables::{Core, SLOTS, Stream};
+
+/// A slot that waits is lowered in the scheduler of its macroflow, and raised in that of another.
+fn pass_on<S: Scheduler>(schedulers: &mut [S], slot: usize, macroflow: usize, stream: Stream)
+    requires from { stream.macroflow < length schedulers.old }
+    requires into { macroflow < length schedulers.old }
+    ensures { schedulers.new ≡ passed_on scheduling schedulers.old slot macroflow stream }
+{
+    if stream.waiting > 0 {
+        lower(schedulers, stream.macroflow, slot);
+        raise(schedulers, macroflow, slot, stream.weight);
+    }
+}
+
+/// Moves a stream to another macroflow, with all its numbers: its outstanding and open bytes count
+/// there from now on.
+pub fn move_to<S: Scheduler>(
+    core: &mut Core,
+    schedulers: &mut [S],
+    time: u64,
+    slot: usize,
+    macroflow: usize,
+) -> Result<(), Refusal>
+    ensures plain { reply result core.new schedulers.new ≡ move_call scheduling core.old schedulers.old time slot macroflow }
+    ensures refused { OnErr result ((core.new ≡ core.old) × (schedulers.new ≡ schedulers.old)) }
+{
+    if schedulers.len() != core.macroflows {
+        return Err(core.about_macroflow(Some(slot), macroflow, 1));
+    }
+    if !core.is_timely(time) {
+        return Err(core.about_macroflow(Some(slot), macroflow, 2));
+    }
+    if slot >= SLOTS {
+        return Err(core.about_macroflow(Some(slot), macroflow, 3));
+    }
+    if macroflow >= core.macroflows {
+        return Err(core.about_macroflow(Some(slot), macroflow, 4));
+    }
+    let stream = core.streams[slot];
+    if !stream.opened {
+        return Err(core.about_macroflow(Some(slot), macroflow, 7));
+    }
+    if stream.macroflow == macroflow {
+        return Err(core.about_macroflow(Some(slot), macroflow, 17));
+    }
+    if stream.macroflow >= core.macroflows {
+        return Err(core.about_macroflow(Some(slot), macroflow, 1));
+    }
+    pass_on(schedulers, slot, macroflow, stream);
+    core.streams[slot].macroflow = macroflow;
+    core.last = time;
+    Ok(())
+}

@@ -1,0 +1,35 @@
+//! A scheduler or a controller of a list is copied out, told, and written back.
+ghost use Rattle.std.specs.Prelude.{◌≡◌, ◌<◌, length};
+ghost use Rattle.stream_calls.specs.Lists.{raised_in, lowered_in, told_in};
+
+use meaning::{Controller, Report, Scheduler};
+
+/// A slot begins to wait in a macroflow.
+pub(crate) fn raise<S: Scheduler>(schedulers: &mut [S], macroflow: usize, slot: usize, weight: u64)
+    requires { macroflow < length schedulers.old }
+    ensures { schedulers.new ≡ raised_in scheduling schedulers.old macroflow slot weight }
+{
+    let mut scheduler = schedulers[macroflow];
+    scheduler.raise(slot, weight);
+    schedulers[macroflow] = scheduler;
+}
+
+/// A slot waits no more in a macroflow.
+pub(crate) fn lower<S: Scheduler>(schedulers: &mut [S], macroflow: usize, slot: usize)
+    requires { macroflow < length schedulers.old }
+    ensures { schedulers.new ≡ lowered_in scheduling schedulers.old macroflow slot }
+{
+    let mut scheduler = schedulers[macroflow];
+    scheduler.lower(slot);
+    schedulers[macroflow] = scheduler;
+}
+
+/// The controller of a macroflow hears a report.
+pub(crate) fn tell<C: Controller>(controllers: &mut [C], macroflow: usize, report: Report)
+    requires { macroflow < length controllers.old }
+    ensures { controllers.new ≡ told_in control controllers.old macroflow report }
+{
+    let mut controller = controllers[macroflow];
+    controller.report(report);
+    controllers[macroflow] = controller;
+}

@@ -1,4 +1,5 @@
 //! The two house controllers: byte AIMD and the rate controller.
+#![tactic(auto)]
 mod aimd;
 mod packets;
 mod rate;

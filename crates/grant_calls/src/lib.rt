@@ -1,4 +1,5 @@
 //! The calls about grants: poll, take_up, settle, expire.
+#![tactic(auto)]
 mod expiring;
 mod finding;
 mod polling;

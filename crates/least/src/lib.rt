@@ -1,4 +1,6 @@
 //! One search for the first record by a total order, over a lent slice.
+#![tactic(auto)]
+
 ghost use Rattle.std.specs.Prelude.{◌≡◌, ℕ, suc, ◌<◌, Bool, true, length, take};
 ghost use Rattle.least.specs.Order.{Order, Least, first_least};
 

@@ -1,4 +1,5 @@
 //! The congestion manager: what a host calls.
+#![tactic(auto)]
 mod granting;
 mod making;
 mod manager_state;

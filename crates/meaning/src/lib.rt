@@ -1,5 +1,7 @@
 //! What the parts of a macroflow mean, whoever writes them: the trait of a controller and the trait of
 //! a scheduler, with the laws that each of them keeps, and the types that they speak in.
+#![tactic(auto)]
+
 mod controller;
 mod limits;
 mod path;

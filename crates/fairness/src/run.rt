@@ -17,8 +17,8 @@ pub fn carry_out<S: Scheduler>(
     scheduler: &mut S,
     events: &[Event],
 ) -> Result<Vec<Option<usize>>, AllocError>
-    ensures ended { Ended scheduling scheduler.old events.now result scheduler.new }
-    ensures fair { IfOk result (λ v. Fair scheduling scheduler.old events.now v.items) }
+    ensures ended { Ended S.scheduling scheduler.old events.now result scheduler.new }
+    ensures fair { IfOk result (λ v. Fair S.scheduling scheduler.old events.now v.items) }
 {
     let mut picked = Vec::with_capacity(heap, events.len())?;
     apply(scheduler, events, &mut picked);
@@ -29,8 +29,8 @@ pub fn carry_out<S: Scheduler>(
 fn apply<S: Scheduler>(scheduler: &mut S, events: &[Event], picked: &mut Vec<Option<usize>>)
     requires empty { (picked.old.items ≡ []) × (vec_len picked.old ≡ 0) }
     requires room { length events.now ≤ vec_capacity picked.old }
-    ensures answers { picked.new.items ≡ answers scheduling scheduler.old events.now }
-    ensures state { scheduler.new ≡ state_after scheduling scheduler.old events.now }
+    ensures answers { picked.new.items ≡ answers S.scheduling scheduler.old events.now }
+    ensures state { scheduler.new ≡ state_after S.scheduling scheduler.old events.now }
 {
     for event in events {
         match *event {

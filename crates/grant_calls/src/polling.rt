@@ -2,7 +2,7 @@
 ghost use Rattle.std.specs.Prelude.{◌≡◌, ◌+◌, ◌^◌, ◌<◌, ◌≤◌, length, None, OnErr, OnOk};
 ghost use Rattle.tables.specs.Core.{about_macroflow};
 ghost use Rattle.tables.specs.Replies.{reply, asked};
-ghost use Rattle.grant_calls.specs.Polls.{agrees as Agrees-on, can_get, granted, issued, poll_questions, poll as poll_call};
+ghost use Rattle.grant_calls.specs.Polls.{agrees as AgreesOn, can_get, granted, issued, poll_questions, poll as poll_call};
 
 use meaning::{Controller, Refusal, Scheduler};
 use tables::{Core, Row, SLOTS, difference_fits, sum_fits};
@@ -44,7 +44,7 @@ fn ask_poll(
 
 /// Whether a scheduler and the records tell the same slots waiting in a macroflow.
 fn agrees<S: Scheduler>(core: &Core, scheduler: &S, macroflow: usize) -> bool
-    ensures { result ≡ Agrees-on scheduling core.now scheduler.now macroflow }
+    ensures { result ≡ AgreesOn S.scheduling core.now scheduler.now macroflow }
 {
     for slot in 0..SLOTS {
         if scheduler.is_waiting(slot) != core.streams[slot].waits_in(macroflow) {
@@ -76,7 +76,7 @@ fn issue<S: Scheduler>(
     packet: u64,
 ) -> Result<Polled, Refusal>
     requires { macroflow < length schedulers.old }
-    ensures plain { reply result core.new (schedulers.new, rows.new) ≡ issued scheduling core.old schedulers.old rows.old time macroflow packet }
+    ensures plain { reply result core.new (schedulers.new, rows.new) ≡ issued S.scheduling core.old schedulers.old rows.old time macroflow packet }
     ensures refused { OnErr result ((core.new ≡ core.old) × (schedulers.new ≡ schedulers.old) × (rows.new ≡ rows.old)) }
 {
     let grant = core.issued;
@@ -117,7 +117,7 @@ pub fn poll<C: Controller, S: Scheduler>(
     time: u64,
     macroflow: usize,
 ) -> Result<Polled, Refusal>
-    ensures plain { reply result core.new (schedulers.new, rows.new) ≡ poll_call control scheduling core.old controllers.now schedulers.old rows.old time macroflow }
+    ensures plain { reply result core.new (schedulers.new, rows.new) ≡ poll_call C.control S.scheduling core.old controllers.now schedulers.old rows.old time macroflow }
     ensures refused { OnErr result ((core.new ≡ core.old) × (schedulers.new ≡ schedulers.old) × (rows.new ≡ rows.old)) }
 {
     ask_poll(

@@ -27,8 +27,8 @@ pub trait Ranking<T> {
 /// The best of the first `i` records, and then of one record more.
 fn step<T, R: Ranking<T>>(by: &R, records: &[T], i: usize, best: Option<usize>) -> Option<usize>
     requires within { i < length records.now }
-    requires so_far { Least (takes by.now) (upto by.now) records.now i best }
-    ensures { Least (takes by.now) (upto by.now) records.now (suc i) result }
+    requires so_far { Least (R.takes by.now) (R.upto by.now) records.now i best }
+    ensures { Least (R.takes by.now) (R.upto by.now) records.now (suc i) result }
 {
     let one = &records[i];
     if !by.takes_part(one) {
@@ -49,8 +49,8 @@ fn step<T, R: Ranking<T>>(by: &R, records: &[T], i: usize, best: Option<usize>) 
 /// The place of the first record, by the order, of those that take part; among equals the earlier
 /// place. Absent exactly when no record takes part.
 pub fn least<T, R: Ranking<T>>(by: &R, records: &[T]) -> Option<usize>
-    ensures least { Least (takes by.now) (upto by.now) records.now (length records.now) result }
-    ensures place { result ≡ first_least (takes by.now) (upto by.now) records.now }
+    ensures least { Least (R.takes by.now) (R.upto by.now) records.now (length records.now) result }
+    ensures place { result ≡ first_least (R.takes by.now) (R.upto by.now) records.now }
 {
     let mut best = None;
     for i in 0..records.len() {
@@ -61,8 +61,8 @@ pub fn least<T, R: Ranking<T>>(by: &R, records: &[T]) -> Option<usize>
 
 /// The same among the first `count` records, or among all where there are fewer.
 pub fn least_of_first<T, R: Ranking<T>>(by: &R, records: &[T], count: usize) -> Option<usize>
-    ensures least { Least (takes by.now) (upto by.now) (take count records.now) (length (take count records.now)) result }
-    ensures place { result ≡ first_least (takes by.now) (upto by.now) (take count records.now) }
+    ensures least { Least (R.takes by.now) (R.upto by.now) (take count records.now) (length (take count records.now)) result }
+    ensures place { result ≡ first_least (R.takes by.now) (R.upto by.now) (take count records.now) }
 {
     if count >= records.len() {
         return least(by, records);

@@ -28,7 +28,7 @@ impl Manager {
         time: u64,
         macroflow: usize,
     ) -> Result<Polled, Refusal>
-        ensures plain { reply result self.new.core (schedulers.new, rows.new) ≡ poll_call control scheduling self.old.core controllers.now schedulers.old rows.old time macroflow }
+        ensures plain { reply result self.new.core (schedulers.new, rows.new) ≡ poll_call C.control S.scheduling self.old.core controllers.now schedulers.old rows.old time macroflow }
         ensures refused { OnErr result ((self.new ≡ self.old) × (schedulers.new ≡ schedulers.old) × (rows.new ≡ rows.old)) }
     {
         grant_calls::poll(

@@ -14,7 +14,7 @@ const MAX_ROWS: usize = 65_536;
 
 /// Whether no slot waits in a scheduler.
 fn is_idle<S: Scheduler>(scheduler: &S) -> bool
-    ensures { result ≡ is_idle scheduling scheduler.now }
+    ensures { result ≡ is_idle S.scheduling scheduler.now }
 {
     for slot in 0..SLOTS {
         if scheduler.is_waiting(slot) {
@@ -26,7 +26,7 @@ fn is_idle<S: Scheduler>(scheduler: &S) -> bool
 
 /// Whether no slot waits in any of the schedulers.
 fn all_idle<S: Scheduler>(schedulers: &[S]) -> bool
-    ensures { result ≡ all_idle scheduling schedulers.now }
+    ensures { result ≡ all_idle S.scheduling schedulers.now }
 {
     for macroflow in 0..schedulers.len() {
         if !is_idle(&schedulers[macroflow]) {
@@ -45,7 +45,7 @@ impl Manager {
         schedulers: &[S],
         rows: &[Row],
     ) -> Result<Manager, Refusal>
-        ensures { core_of result ≡ made scheduling macroflows (length controllers.now) schedulers.now (length rows.now) }
+        ensures { core_of result ≡ made S.scheduling macroflows (length controllers.now) schedulers.now (length rows.now) }
     {
         if macroflows < 1
             || macroflows > MAX_MACROFLOWS

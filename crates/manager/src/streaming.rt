@@ -31,7 +31,7 @@ impl Manager {
         time: u64,
         slot: usize,
     ) -> Result<(), Refusal>
-        ensures plain { reply result self.new.core schedulers.new ≡ request_call scheduling self.old.core schedulers.old time slot }
+        ensures plain { reply result self.new.core schedulers.new ≡ request_call S.scheduling self.old.core schedulers.old time slot }
         ensures refused { OnErr result ((self.new ≡ self.old) × (schedulers.new ≡ schedulers.old)) }
     {
         stream_calls::request(&mut self.core, schedulers, time, slot)
@@ -45,7 +45,7 @@ impl Manager {
         slot: usize,
         feedback: Feedback,
     ) -> Result<(), Refusal>
-        ensures plain { reply result self.new.core controllers.new ≡ report_call control self.old.core controllers.old time slot feedback }
+        ensures plain { reply result self.new.core controllers.new ≡ report_call C.control self.old.core controllers.old time slot feedback }
         ensures refused { OnErr result ((self.new ≡ self.old) × (controllers.new ≡ controllers.old)) }
     {
         stream_calls::report(&mut self.core, controllers, time, slot, feedback)
@@ -59,7 +59,7 @@ impl Manager {
         slot: usize,
         macroflow: usize,
     ) -> Result<(), Refusal>
-        ensures plain { reply result self.new.core schedulers.new ≡ move_call scheduling self.old.core schedulers.old time slot macroflow }
+        ensures plain { reply result self.new.core schedulers.new ≡ move_call S.scheduling self.old.core schedulers.old time slot macroflow }
         ensures refused { OnErr result ((self.new ≡ self.old) × (schedulers.new ≡ schedulers.old)) }
     {
         stream_calls::move_to(&mut self.core, schedulers, time, slot, macroflow)
@@ -72,7 +72,7 @@ impl Manager {
         time: u64,
         slot: usize,
     ) -> Result<(), Refusal>
-        ensures plain { reply result self.new.core schedulers.new ≡ close_call scheduling self.old.core schedulers.old time slot }
+        ensures plain { reply result self.new.core schedulers.new ≡ close_call S.scheduling self.old.core schedulers.old time slot }
         ensures refused { OnErr result ((self.new ≡ self.old) × (schedulers.new ≡ schedulers.old)) }
     {
         stream_calls::close(&mut self.core, schedulers, time, slot)

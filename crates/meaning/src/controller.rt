@@ -40,10 +40,10 @@ pub trait Controller: Copy {
 /// Whatever the controller and the reports are, the packet is as it was, the allowance is in
 /// range, and the path estimate is that of the samples in the reports that are in range.
 pub fn tell_all<C: Controller>(controller: &mut C, reports: &[Report])
-    ensures after { controller.new ≡ told_all control controller.old reports.now }
-    ensures packet { control.packet controller.new ≡ control.packet controller.old }
-    ensures allowance { (control.packet controller.new ≤ control.allowance controller.new) × (control.allowance controller.new ≤ 1048576) }
-    ensures path { control.path controller.new ≡ paths_after (control.path controller.old) reports.now }
+    ensures after { controller.new ≡ told_all C.control controller.old reports.now }
+    ensures packet { C.control.packet controller.new ≡ C.control.packet controller.old }
+    ensures allowance { (C.control.packet controller.new ≤ C.control.allowance controller.new) × (C.control.allowance controller.new ≤ 1048576) }
+    ensures path { C.control.path controller.new ≡ paths_after (C.control.path controller.old) reports.now }
 {
     for report in reports {
         controller.report(*report);

@@ -6,8 +6,8 @@ use crate::scheduler::Scheduler;
 
 /// The answers of the next K picks.
 pub fn next_picks<S: Scheduler, const K: usize>(scheduler: &mut S) -> [Option<usize>; K]
-    ensures answers { result ≡ picks scheduling K scheduler.old }
-    ensures after { scheduler.new ≡ turned_by scheduling K scheduler.old }
+    ensures answers { result ≡ picks S.scheduling K scheduler.old }
+    ensures after { scheduler.new ≡ turned_by S.scheduling K scheduler.old }
 {
     let mut answers = [None; K];
     for i in 0..K {

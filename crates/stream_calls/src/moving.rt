@@ -11,7 +11,7 @@ use tables::{Core, SLOTS, Stream};
 fn pass_on<S: Scheduler>(schedulers: &mut [S], slot: usize, macroflow: usize, stream: Stream)
     requires from { stream.macroflow < length schedulers.old }
     requires into { macroflow < length schedulers.old }
-    ensures { schedulers.new ≡ passed_on scheduling schedulers.old slot macroflow stream }
+    ensures { schedulers.new ≡ passed_on S.scheduling schedulers.old slot macroflow stream }
 {
     if stream.waiting > 0 {
         lower(schedulers, stream.macroflow, slot);
@@ -28,7 +28,7 @@ pub fn move_to<S: Scheduler>(
     slot: usize,
     macroflow: usize,
 ) -> Result<(), Refusal>
-    ensures plain { reply result core.new schedulers.new ≡ move_call scheduling core.old schedulers.old time slot macroflow }
+    ensures plain { reply result core.new schedulers.new ≡ move_call S.scheduling core.old schedulers.old time slot macroflow }
     ensures refused { OnErr result ((core.new ≡ core.old) × (schedulers.new ≡ schedulers.old)) }
 {
     if schedulers.len() != core.macroflows {

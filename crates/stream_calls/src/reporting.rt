@@ -112,7 +112,7 @@ pub fn report<C: Controller>(
     slot: usize,
     feedback: Feedback,
 ) -> Result<(), Refusal>
-    ensures plain { reply result core.new controllers.new ≡ report_call control core.old controllers.old time slot feedback }
+    ensures plain { reply result core.new controllers.new ≡ report_call C.control core.old controllers.old time slot feedback }
     ensures refused { OnErr result ((core.new ≡ core.old) × (controllers.new ≡ controllers.old)) }
 {
     let stream = ask(core, controllers.len(), time, slot, feedback)?;

@@ -17,7 +17,7 @@ pub fn request<S: Scheduler>(
     time: u64,
     slot: usize,
 ) -> Result<(), Refusal>
-    ensures plain { reply result core.new schedulers.new ≡ request_call scheduling core.old schedulers.old time slot }
+    ensures plain { reply result core.new schedulers.new ≡ request_call S.scheduling core.old schedulers.old time slot }
     ensures refused { OnErr result ((core.new ≡ core.old) × (schedulers.new ≡ schedulers.old)) }
 {
     if schedulers.len() != core.macroflows {

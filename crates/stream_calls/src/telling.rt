@@ -7,7 +7,7 @@ use meaning::{Controller, Report, Scheduler};
 /// A slot begins to wait in a macroflow.
 pub(crate) fn raise<S: Scheduler>(schedulers: &mut [S], macroflow: usize, slot: usize, weight: u64)
     requires { macroflow < length schedulers.old }
-    ensures { schedulers.new ≡ raised_in scheduling schedulers.old macroflow slot weight }
+    ensures { schedulers.new ≡ raised_in S.scheduling schedulers.old macroflow slot weight }
 {
     let mut scheduler = schedulers[macroflow];
     scheduler.raise(slot, weight);
@@ -17,7 +17,7 @@ pub(crate) fn raise<S: Scheduler>(schedulers: &mut [S], macroflow: usize, slot: 
 /// A slot waits no more in a macroflow.
 pub(crate) fn lower<S: Scheduler>(schedulers: &mut [S], macroflow: usize, slot: usize)
     requires { macroflow < length schedulers.old }
-    ensures { schedulers.new ≡ lowered_in scheduling schedulers.old macroflow slot }
+    ensures { schedulers.new ≡ lowered_in S.scheduling schedulers.old macroflow slot }
 {
     let mut scheduler = schedulers[macroflow];
     scheduler.lower(slot);
@@ -27,7 +27,7 @@ pub(crate) fn lower<S: Scheduler>(schedulers: &mut [S], macroflow: usize, slot: 
 /// The controller of a macroflow hears a report.
 pub(crate) fn tell<C: Controller>(controllers: &mut [C], macroflow: usize, report: Report)
     requires { macroflow < length controllers.old }
-    ensures { controllers.new ≡ told_in control controllers.old macroflow report }
+    ensures { controllers.new ≡ told_in C.control controllers.old macroflow report }
 {
     let mut controller = controllers[macroflow];
     controller.report(report);

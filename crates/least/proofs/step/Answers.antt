@@ -2,8 +2,8 @@ use Rattle.std.proofs.Common.{rules}
 use Rattle.least.proofs.Steps.{takes_over}
 use Rattle.least.proofs.step.Goals as goal
 
-pub returns-else-no-later : goal.returns-else-no-later
-returns-else-no-later g c =
+pub returns-else-no_later : goal.returns-else-no_later
+returns-else-no_later g c =
     let x = c.index-records-i in
     takes_over
     (g.met.R.Ranking.order c.args.by.now)

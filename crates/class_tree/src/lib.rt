@@ -1,5 +1,6 @@
 //! The class tree: four classes of eight slots each.
 #![tactic(auto)]
+
 mod class_tree;
 mod scheduler;
 mod state;

@@ -1,5 +1,6 @@
 //! The two house controllers: byte AIMD and the rate controller.
 #![tactic(auto)]
+
 mod aimd;
 mod packets;
 mod rate;

@@ -1,5 +1,6 @@
 //! Lists of raises, lowers and picks, carried out by any scheduler, and the fairness of their picks.
 #![tactic(auto)]
+
 mod event;
 mod run;
 

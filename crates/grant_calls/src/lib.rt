@@ -1,5 +1,6 @@
 //! The calls about grants: poll, take_up, settle, expire.
 #![tactic(auto)]
+
 mod expiring;
 mod finding;
 mod polling;

@@ -1,6 +1,7 @@
 //! The hub of a wind farm: what its congestion manager does, shown on one real job from start to
 //! finish.
 #![tactic(auto)]
+
 mod accounts;
 mod contest;
 mod farm;

@@ -1,5 +1,6 @@
 //! The congestion manager: what a host calls.
 #![tactic(auto)]
+
 mod granting;
 mod making;
 mod manager_state;

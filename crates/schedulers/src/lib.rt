@@ -1,5 +1,6 @@
 //! The weighted round robin, over any number of places.
 #![tactic(auto)]
+
 mod flat;
 mod round_robin;
 mod state;

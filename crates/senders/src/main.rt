@@ -1,5 +1,6 @@
 //! Three senders of one turbine: each asks for a grant, takes it up, sends, and settles its ticket.
 #![tactic(auto)]
+
 mod uplink;
 
 use std::io;

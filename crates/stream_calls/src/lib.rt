@@ -1,5 +1,6 @@
 //! The calls about one stream: open, request, report, close, and what can be asked of the records.
 #![tactic(auto)]
+
 mod asking;
 mod closing;
 mod moving;

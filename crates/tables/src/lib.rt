@@ -1,6 +1,7 @@
 //! The tables of a congestion manager: the stream records, the ledger's rows, and the plain core
 //! that holds the records and the counts.
 #![tactic(auto)]
+
 mod core_state;
 mod numbers;
 mod row;

@@ -1,6 +1,7 @@
 //! Worked values of the rules, each proved as the contract of a function of its own, and a table
 //! of further values that the tests run.
 #![tactic(auto)]
+
 mod controllers_worked;
 #[cfg(test)]
 mod tests;

@@ -10,8 +10,8 @@ unfolding any_below
 returns c = record {
   rule = refl;
   bound = λ _. refl;
-  carried-out =
-      c.next-picks.ensures.answers
+  carried_out =
+      c.next_picks.ensures.answers
       ∙ ap (λ (s : ClassTree). picks class_tree 12 s)
       (c.raise-2.ensures ∙ ap (λ (s : ClassTree). class_tree.raised s 8 1) (c.raise.ensures ∙ ap (λ (s : ClassTree). class_tree.raised s 0 1) c.new-scheduler.ensures));
 }

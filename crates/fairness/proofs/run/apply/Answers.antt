@@ -23,11 +23,11 @@ loop-event-preserved g c =
             (w.scheduler-is ∙ w.lower.ensures) (ap vec_items w.picked-is ∙ sym (append-nil (vec_items l.picked))),
       )
       | in-Pick w ↦ (
-        omega (arith, ap vec_len w.picked-is, w.push-reserved.ensures.len),
-        omega (arith, ap vec_capacity w.picked-is, w.push-reserved.ensures.capacity),
+        omega (arith, ap vec_len w.picked-is, w.push_reserved.ensures.len),
+        omega (arith, ap vec_capacity w.picked-is, w.push_reserved.ensures.capacity),
         more _ Pick c.loop-event-test.true (sym w.in-Pick.is) l.invariant.2 _ _
             (w.scheduler-is ∙ w.pick.ensures.after)
-            (ap vec_items w.picked-is ∙ w.push-reserved.ensures.items ∙ ap (λ (x : Option ℕ). vec_items l.picked ++ (x ∷ [])) w.pick.ensures.answer),
+            (ap vec_items w.picked-is ∙ w.push_reserved.ensures.items ∙ ap (λ (x : Option ℕ). vec_items l.picked ++ (x ∷ [])) w.pick.ensures.answer),
       )
     ]
 

@@ -19,12 +19,12 @@ pub loop-slot-init : goal.loop-slot-init
 loop-slot-init g c = all_none _
 
 pub loop-slot-preserved : goal.loop-slot-preserved
-loop-slot-preserved g c = all_more _ _ c.loop-slot.invariant (sym (ap₂ beq c.is-waiting.ensures c.waits-in.ensures) ∙ not_false _ c.if-is-waiting-waits-in.false)
+loop-slot-preserved g c = all_more _ _ c.loop-slot.invariant (sym (ap₂ beq c.is_waiting.ensures c.waits_in.ensures) ∙ not_false _ c.if-is_waiting-waits_in.false)
 
-pub returns-then-is-waiting-waits-in : goal.returns-then-is-waiting-waits-in
-returns-then-is-waiting-waits-in g c =
+pub returns-then-is_waiting-waits_in : goal.returns-then-is_waiting-waits_in
+returns-then-is_waiting-waits_in g c =
     sym (all_fails _ 32 c.loop-slot.slot c.loop-slot-test.true
-    (sym (ap₂ beq c.is-waiting.ensures c.waits-in.ensures) ∙ not_true _ c.if-is-waiting-waits-in.true))
+    (sym (ap₂ beq c.is_waiting.ensures c.waits_in.ensures) ∙ not_true _ c.if-is_waiting-waits_in.true))
 
 pub returns : goal.returns
 returns g c =

@@ -13,14 +13,14 @@ loop-macroflow-preserved g c =
     let k = g.S.Scheduler.scheduling in
     let x = c.index-schedulers-macroflow in
     let read = get_or_read c.args.schedulers.now c.loop-macroflow.macroflow x.result c.loop-macroflow-test.true x.is k.spare in
-    all_more _ _ c.loop-macroflow.invariant (ap (is_idle k) (sym read) ∙ sym c.if-not-is-idle.ensures)
+    all_more _ _ c.loop-macroflow.invariant (ap (is_idle k) (sym read) ∙ sym c.if-not-is_idle.ensures)
 
-pub returns-then-not-is-idle : goal.returns-then-not-is-idle
-returns-then-not-is-idle g c =
+pub returns-then-not-is_idle : goal.returns-then-not-is_idle
+returns-then-not-is_idle g c =
     let k = g.S.Scheduler.scheduling in
     let x = c.index-schedulers-macroflow in
     let read = get_or_read c.args.schedulers.now c.loop-macroflow.macroflow x.result c.loop-macroflow-test.true x.is k.spare in
-    sym (all_fails _ _ c.loop-macroflow.macroflow c.loop-macroflow-test.true (ap (is_idle k) (sym read) ∙ sym c.if-not-is-idle.ensures))
+    sym (all_fails _ _ c.loop-macroflow.macroflow c.loop-macroflow-test.true (ap (is_idle k) (sym read) ∙ sym c.if-not-is_idle.ensures))
 
 pub returns : goal.returns
 returns g c =

@@ -7,11 +7,11 @@ pub loop-slot-init : goal.loop-slot-init
 loop-slot-init g c = all_none _
 
 pub loop-slot-preserved : goal.loop-slot-preserved
-loop-slot-preserved g c = all_more _ _ c.loop-slot.invariant (ap not (sym c.is-waiting.ensures ∙ c.if-is-waiting.false))
+loop-slot-preserved g c = all_more _ _ c.loop-slot.invariant (ap not (sym c.is_waiting.ensures ∙ c.if-is_waiting.false))
 
-pub returns-then-is-waiting : goal.returns-then-is-waiting
-returns-then-is-waiting g c =
-    sym (all_fails _ 32 c.loop-slot.slot c.loop-slot-test.true (ap not (sym c.is-waiting.ensures ∙ c.if-is-waiting.true)))
+pub returns-then-is_waiting : goal.returns-then-is_waiting
+returns-then-is_waiting g c =
+    sym (all_fails _ 32 c.loop-slot.slot c.loop-slot-test.true (ap not (sym c.is_waiting.ensures ∙ c.if-is_waiting.true)))
 
 pub returns : goal.returns
 returns g c =

@@ -8,8 +8,8 @@ pub returns : goal.returns
 returns c = record {
   rule = refl;
   bound = λ _. refl;
-  carried-out =
-      c.next-picks.ensures.answers
+  carried_out =
+      c.next_picks.ensures.answers
       ∙ ap (λ (s : RoundRobin 32). picks (round_robin 32) 6 s)
       (c.raise-2.ensures ∙ ap (λ (s : RoundRobin 32). (round_robin 32).raised s 1 1) (c.raise.ensures ∙ ap (λ (s : RoundRobin 32). (round_robin 32).raised s 0 2) c.new-scheduler.ensures));
 }

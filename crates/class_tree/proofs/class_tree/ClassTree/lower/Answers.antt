@@ -8,38 +8,38 @@ use Rattle.class_tree.specs.Same.{SoundState, same}
 use Rattle.class_tree.proofs.Steps.{parts, lowered_is}
 use Rattle.class_tree.specs.TwoLevels.{waits_past}
 use Rattle.class_tree.proofs.class_tree.ClassTree.lower.Goals as goal
-use Rattle.class_tree.proofs.class_tree.ClassTree.lower.Goals.{After-lower-then-not-is-any-waiting, Else-not-is-any-waiting}
+use Rattle.class_tree.proofs.class_tree.ClassTree.lower.Goals.{After-lower-then-not-is_any_waiting, Else-not-is_any_waiting}
 
 -- the state at the end, where no slot of the class waits and where one does
-idle : (c : After-lower-then-not-is-any-waiting)
-    → parts c.lower-then-not-is-any-waiting.new.self (set c.args.self.now.state.slots (c.args.slot / 8) c.lower.new.self)
+idle : (c : After-lower-then-not-is_any_waiting)
+    → parts c.lower-then-not-is_any_waiting.new.self (set c.args.self.now.state.slots (c.args.slot / 8) c.lower.new.self)
     ≡ (class_tree.lowered c.args.self.now c.args.slot).state
 idle c =
     let t = c.args.self.now in
     let m = c.lower.new.self in
     lowered_is t.state t.sound.0 c.args.slot c.if-slot-lt32.true _ m _ c.lower.ensures
-    (c.lower-then-not-is-any-waiting.ensures ∙ sym (cond-false (any_waits round_robins m) _ _ (sym c.is-any-waiting.ensures ∙ c.if-not-is-any-waiting.true)))
+    (c.lower-then-not-is_any_waiting.ensures ∙ sym (cond-false (any_waits round_robins m) _ _ (sym c.is_any_waiting.ensures ∙ c.if-not-is_any_waiting.true)))
 
-waiting : (c : Else-not-is-any-waiting)
+waiting : (c : Else-not-is_any_waiting)
     → parts c.args.self.now.state.classes (set c.args.self.now.state.slots (c.args.slot / 8) c.lower.new.self)
     ≡ (class_tree.lowered c.args.self.now c.args.slot).state
 waiting c =
     let t = c.args.self.now in
     let m = c.lower.new.self in
     lowered_is t.state t.sound.0 c.args.slot c.if-slot-lt32.true _ m _ c.lower.ensures
-    (sym (cond-true (any_waits round_robins m) _ _ (sym c.is-any-waiting.ensures ∙ c.if-not-is-any-waiting.false)))
+    (sym (cond-true (any_waits round_robins m) _ _ (sym c.is_any_waiting.ensures ∙ c.if-not-is_any_waiting.false)))
 
 pub invariant_of-self : goal.invariant_of-self
-invariant_of-self c = (subst SoundState (sym (idle c)) (class_tree.lowered c.args.self.now c.args.slot).sound, tt)
+invariant_of-self c = record { sound = subst SoundState (sym (idle c)) (class_tree.lowered c.args.self.now c.args.slot).sound }
 
-pub invariant_of-self-else-not-is-any-waiting : goal.invariant_of-self-else-not-is-any-waiting
-invariant_of-self-else-not-is-any-waiting c = (subst SoundState (sym (waiting c)) (class_tree.lowered c.args.self.now c.args.slot).sound, tt)
+pub invariant_of-self-else-not-is_any_waiting : goal.invariant_of-self-else-not-is_any_waiting
+invariant_of-self-else-not-is_any_waiting c = record { sound = subst SoundState (sym (waiting c)) (class_tree.lowered c.args.self.now c.args.slot).sound }
 
-pub returns-then-not-is-any-waiting : goal.returns-then-not-is-any-waiting
-returns-then-not-is-any-waiting c = same _ _ (idle (goal.at.returns-then-not-is-any-waiting c).After-lower-then-not-is-any-waiting)
+pub returns-then-not-is_any_waiting : goal.returns-then-not-is_any_waiting
+returns-then-not-is_any_waiting c = same _ _ (idle (goal.at.returns-then-not-is_any_waiting c).After-lower-then-not-is_any_waiting)
 
-pub returns-else-not-is-any-waiting : goal.returns-else-not-is-any-waiting
-returns-else-not-is-any-waiting c = same _ _ (waiting (goal.at.returns-else-not-is-any-waiting c).Else-not-is-any-waiting)
+pub returns-else-not-is_any_waiting : goal.returns-else-not-is_any_waiting
+returns-else-not-is_any_waiting c = same _ _ (waiting (goal.at.returns-else-not-is_any_waiting c).Else-not-is_any_waiting)
 
 pub returns-else-slot-lt32 : goal.returns-else-slot-lt32
 returns-else-slot-lt32 c =

@@ -11,7 +11,7 @@ fresh_parts : {p : RoundRobin 4} {q : RoundRobin 8} → p ≡ rr.fresh 4 → q �
 fresh_parts e f = λ i. parts (e i) (replicate 4 (f i))
 
 pub invariant_of-result : goal.invariant_of-result
-invariant_of-result c = (subst SoundState (sym (fresh_parts c.new.ensures c.new-slots.ensures)) fresh_sound, tt)
+invariant_of-result c = record { sound = subst SoundState (sym (fresh_parts c.new.ensures c.new-slots.ensures)) fresh_sound }
 
 pub returns : goal.returns
 returns c = same _ _ (fresh_parts c.new.ensures c.new-slots.ensures)

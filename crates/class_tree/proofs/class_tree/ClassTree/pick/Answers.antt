@@ -3,10 +3,10 @@ use Rattle.class_tree.specs.Scheduling.{class_tree}
 use Rattle.class_tree.specs.Same.{SoundState, same}
 use Rattle.class_tree.proofs.Steps.{parts, class_below, place_below, picked_answer, picked_after, absent_answer, absent_after}
 use Rattle.class_tree.proofs.class_tree.ClassTree.pick.Goals as goal
-use Rattle.class_tree.proofs.class_tree.ClassTree.pick.Goals.{In-default, After-pick-picked}
+use Rattle.class_tree.proofs.class_tree.ClassTree.pick.Goals.{In_default, After-pick-picked}
 
 -- the state at the end, where no class is picked and where one is
-absent : (c : In-default) → parts c.pick.new.self c.args.self.now.state.slots ≡ (class_tree.turned c.args.self.now).state
+absent : (c : In_default) → parts c.pick.new.self c.args.self.now.state.slots ≡ (class_tree.turned c.args.self.now).state
 absent c =
     let t = c.args.self.now in
     absent_after t.state t.sound.0 (sym c.in_default.ensures.answer) c.pick.new.self c.pick.ensures.after
@@ -18,15 +18,15 @@ picked c =
     picked_after t.state t.sound.0 c.in-Some.class (sym c.in-Some.ensures.answer) _ c.pick-picked.new.self c.pick.new.self c.pick.ensures.after c.pick-picked.ensures.after
 
 pub invariant_of-self : goal.invariant_of-self
-invariant_of-self c = (subst SoundState (sym (absent c)) (class_tree.turned c.args.self.now).sound, tt)
+invariant_of-self c = record { sound = subst SoundState (sym (absent c)) (class_tree.turned c.args.self.now).sound }
 
 pub returns-in_default : goal.returns-in_default
 returns-in_default c =
     let t = c.args.self.now in
-    record { answer = absent_answer t.state t.sound.0 (sym c.in_default.ensures.answer); after = same _ _ (absent (goal.at.returns-in_default c).In-default) }
+    record { answer = absent_answer t.state t.sound.0 (sym c.in_default.ensures.answer); after = same _ _ (absent (goal.at.returns-in_default c).In_default) }
 
 pub invariant_of-self-2 : goal.invariant_of-self-2
-invariant_of-self-2 c = (subst SoundState (sym (picked (goal.at.invariant_of-self-2 c).After-pick-picked)) (class_tree.turned c.args.self.now).sound, tt)
+invariant_of-self-2 c = record { sound = subst SoundState (sym (picked (goal.at.invariant_of-self-2 c).After-pick-picked)) (class_tree.turned c.args.self.now).sound }
 
 pub overflow_add-result : goal.overflow_add-result
 overflow_add-result c =

@@ -5,7 +5,7 @@ use Rattle.schedulers.specs.Same.{same}
 use Rattle.schedulers.proofs.round_robin.RoundRobin.lower.Goals as goal
 
 pub invariant_of-self : goal.invariant_of-self
-invariant_of-self g c = let r = c.args.self.now in (subst (Sound g.row.N) (sym c.lower.ensures) (lowered_sound r.state r.sound c.args.place), tt)
+invariant_of-self g c = let r = c.args.self.now in record { sound = subst (Sound g.row.N) (sym c.lower.ensures) (lowered_sound r.state r.sound c.args.place) }
 
 pub returns : goal.returns
 returns g c = same _ _ c.lower.ensures

@@ -9,7 +9,7 @@ pub loop-slot-init : goal.loop-slot-init
 loop-slot-init c = (sum_none _ 0, omega arith)
 
 pub loop-slot-preserved : goal.loop-slot-preserved
-loop-slot-preserved c = (sum_more _ _ _ _ c.loop-slot.invariant.0 c.flight-in-outstanding.ensures.value, omega (arith, c.loop-slot.invariant.1, c.flight-in-outstanding.ensures.most))
+loop-slot-preserved c = (sum_more _ _ _ _ c.loop-slot.invariant.0 c.flight_in-outstanding.ensures.value, omega (arith, c.loop-slot.invariant.1, c.flight_in-outstanding.ensures.most))
 
 pub returns : goal.returns
 returns c =

@@ -10,10 +10,10 @@ pub loop-slot-init : goal.loop-slot-init
 loop-slot-init c = any_none _
 
 pub loop-slot-preserved : goal.loop-slot-preserved
-loop-slot-preserved c = any_past _ _ c.loop-slot.invariant (sym c.waits-in.ensures ∙ c.if-waits-in.false)
+loop-slot-preserved c = any_past _ _ c.loop-slot.invariant (sym c.waits_in.ensures ∙ c.if-waits_in.false)
 
-pub returns-then-waits-in : goal.returns-then-waits-in
-returns-then-waits-in c = sym (any_below_true 32 _ c.loop-slot.slot c.loop-slot-test.true (sym c.waits-in.ensures ∙ c.if-waits-in.true))
+pub returns-then-waits_in : goal.returns-then-waits_in
+returns-then-waits_in c = sym (any_below_true 32 _ c.loop-slot.slot c.loop-slot-test.true (sym c.waits_in.ensures ∙ c.if-waits_in.true))
 
 pub returns : goal.returns
 returns c =

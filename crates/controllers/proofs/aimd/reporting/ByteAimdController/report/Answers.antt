@@ -5,7 +5,7 @@ use Rattle.controllers.proofs.AimdFacts.{loss_never_grows, silence_leaves_one}
 use Rattle.controllers.proofs.aimd.reporting.ByteAimdController.report.Goals as goal
 
 pub invariant_of-self : goal.invariant_of-self
-invariant_of-self c = let s = c.args.self.now in (subst InRange (sym c.told-self.ensures) (told_in_range s.state s.ranged c.args.report), tt)
+invariant_of-self c = let s = c.args.self.now in record { ranged = subst InRange (sym c.told-self.ensures) (told_in_range s.state s.ranged c.args.report) }
 
 pub returns : goal.returns
 returns c =

@@ -19,7 +19,7 @@ pub type AimdBench = Bench<ByteAimd, RoundRobin<32>>;
 pub type RateBench = Bench<RateController, ClassTree>;
 
 /// Why the program stops before its end.
-#[derive(Drop)]
+#[derive(Debug, Drop)]
 pub enum Halt {
     /// Nothing more can be printed.
     Output(io::Error),

@@ -2,7 +2,7 @@
 --   two_waiting    a fresh tree, where slots 0 and 8 wait with weight 1
 --   EightToFour  its picks are slot 0 eight times, then slot 8 four times
 --   Bound1424     the bound of every class tree is 1,424
-use Rattle.std.specs.Prelude.{◌≡◌, ℕ, ◌++◌, replicate, Some}
+use Rattle.std.specs.Prelude.{◌≡◌, ◌++◌, replicate, Some}
 use Rattle.meaning.specs.Scheduling.{picks}
 use Rattle.class_tree.specs.declared.class_tree.ClassTree.{ClassTree}
 use Rattle.class_tree.specs.Scheduling.{fresh, class_tree}

@@ -7,11 +7,10 @@
 --   slots_set     the slots of class d after those of class c are replaced
 --   set_sound     a tree stays sound where the slots of class c are replaced, if class c then waits as they say
 --   raised_sound, lowered_sound, after_sound, turned_sound  so it stays sound after a raise, a lower and a pick
-use Rattle.std.specs.Prelude.{◌≡◌, ℕ, zero, suc, ◌/◌, ◌%◌, ◌<◌, ◌≤◌, Bool, true, false, cond, ◌⊎◌, List, length, get_or, Some, None, Option, ◌≢◌, slice_index_or, slice_set, refl}
+use Rattle.std.specs.Prelude.{◌≡◌, ℕ, zero, suc, ◌/◌, ◌%◌, ◌<◌, ◌≤◌, Bool, true, false, ◌⊎◌, length, get_or, Some, None, Option, ◌≢◌, slice_index_or, slice_set, refl}
 use Rattle.std.proofs.Common.{sym, ◌∙◌, ap, inl, inr, ⊎_elim, arith, length-set}
 use Rattle.std.proofs.lemmas.List.{get_or-set_same, get_or-set_other, get_or_past, set_past}
 use Rattle.std.proofs.lemmas.Bool.{cond_both, cases_lt, cases_eq, cases_Bool, both_ways}
-use Rattle.meaning.specs.Below.{any_below}
 use Rattle.meaning.proofs.AnyBelow.{any_below_some, any_below_true, any_below_false}
 use Rattle.class_tree.specs.Levels.{Levels, Tree}
 use Rattle.class_tree.specs.Rule.{class_weight, any_waits, slots_of, Sound, slots_raised, class_raised, raised, slots_lowered, class_lowered, lowered, slots_after, turned}

@@ -2,7 +2,7 @@
 --   round_robins  4 classes and 8 slots in each, by round robin
 --   tree_of       the state of a class tree as one over these levels
 --   state_of      and back
-use Rattle.std.specs.Prelude.{ℕ, refl}
+use Rattle.std.specs.Prelude.{refl}
 use Rattle.schedulers.specs.declared.round_robin.RoundRobin.{RoundRobin}
 use Rattle.schedulers.specs.Scheduling.{fresh, round_robin}
 use Rattle.schedulers.specs.Lawful.{round_robin_laws, fresh_idle}

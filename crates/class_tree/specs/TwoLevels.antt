@@ -1,10 +1,9 @@
 -- A tree of two levels keeps the laws of a scheduler of 32 slots, by the laws of the levels alone.
-use Rattle.std.specs.Prelude.{◌≡◌, ℕ, ◌+◌, ◌*◌, ◌/◌, ◌%◌, ◌<◌, ◌≤◌, Bool, true, false, cond, ◌⊎◌, List, length, Some, None, Option, ◌≢◌, slice_index_or, slice_set, refl}
-use Rattle.std.proofs.Common.{sym, ◌∙◌, ap, subst, inl, inr, ⊎_elim, arith}
+use Rattle.std.specs.Prelude.{◌≡◌, ℕ, ◌+◌, ◌*◌, ◌/◌, ◌%◌, ◌<◌, ◌≤◌, true, false, ◌⊎◌, List, length, Some, None, Option, ◌≢◌, slice_index_or, slice_set, refl}
+use Rattle.std.proofs.Common.{sym, ◌∙◌, ap, subst, ⊎_elim, arith}
 use Rattle.std.proofs.lemmas.List.{set-get_or, set_past}
 use Rattle.std.proofs.lemmas.Bool.{cond_both, cases_lt, cases_eq, cases_Bool, both_ways}
-use Rattle.meaning.specs.Below.{any_below}
-use Rattle.meaning.proofs.AnyBelow.{any_below_none, any_below_false}
+use Rattle.meaning.proofs.AnyBelow.{any_below_false}
 use Rattle.class_tree.specs.Levels.{Levels, Tree}
 use Rattle.class_tree.specs.Rule.{class_weight, slot_in, any_waits, slots_of, Sound, waits, weight, slots_raised, class_raised, raised, slots_lowered, class_lowered, lowered, chosen_in, chosen, slots_after, turned, patience}
 use Rattle.class_tree.specs.Kept.{any_one, slots_past, slots_set}

@@ -10,7 +10,7 @@
 --   silenced s f              silence: the window falls to a packet
 --   step s r m                a report r in range with the mode m, its sample taken already
 --   told s r                  any report: ignored where a number is out of range
-use Rattle.std.specs.Prelude.{ℕ, ◌+◌, ◌*◌, ◌/◌, min, max, Bool, true, false, cond, None, Option, nat_le, nat_lt}
+use Rattle.std.specs.Prelude.{ℕ, ◌+◌, ◌*◌, ◌/◌, min, max, cond, None, nat_le, nat_lt}
 use Rattle.meaning.specs.declared.report.Mode.{Mode}
 use Rattle.meaning.specs.declared.report.Mode.TheVariants.{Clear, Loss, Mark, Silence}
 use Rattle.meaning.specs.declared.report.Report.{Report}

@@ -2,9 +2,9 @@
 --   WindowRange p w     the window lies from one packet to 1,048,576
 --   ThresholdRange p t  the threshold lies from two packets to 1,048,576
 --   InRange s           all of these, and a count below 1,048,576
-use Rattle.std.specs.Prelude.{◌≡◌, ℕ, ◌+◌, ◌*◌, ◌<◌, ◌≤◌, Bool, true, false, cond, Some, None, Option, nat_le, nat_lt, refl}
+use Rattle.std.specs.Prelude.{ℕ, ◌+◌, ◌*◌, ◌<◌, ◌≤◌, nat_le, nat_lt}
 use Rattle.std.proofs.Common.{arith}
-use Rattle.std.proofs.lemmas.Bool.{cond_both, leb-true, leb-false}
+use Rattle.std.proofs.lemmas.Bool.{cond_both, leb-false}
 use Rattle.meaning.specs.declared.report.Mode.{Mode}
 use Rattle.meaning.specs.declared.report.Mode.TheVariants.{Clear, Loss, Mark, Silence}
 use Rattle.meaning.specs.declared.report.Report.{Report}

@@ -8,7 +8,7 @@
 --   silenced s            silence: the rate falls to 8,000
 --   step s r m            a report r in range with the mode m, its sample taken already
 --   told s r              any report: ignored where a number is out of range
-use Rattle.std.specs.Prelude.{ℕ, ◌+◌, ◌-◌, ◌*◌, ◌/◌, min, max, Bool, true, false, cond, Some, None, Option, nat_le}
+use Rattle.std.specs.Prelude.{ℕ, ◌+◌, ◌-◌, ◌*◌, ◌/◌, min, max, cond, Some, None, Option, nat_le}
 use Rattle.meaning.specs.declared.path.PathEstimate.{PathEstimate}
 use Rattle.meaning.specs.declared.report.Mode.{Mode}
 use Rattle.meaning.specs.declared.report.Mode.TheVariants.{Clear, Loss, Mark, Silence}

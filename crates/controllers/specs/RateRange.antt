@@ -2,7 +2,7 @@
 --   RateRange v      the rate lies from 8,000 to 10,000,000
 --   InRange s        this, a packet in its range, and a count below 1,048,576
 --   told_in_range     every report keeps them
-use Rattle.std.specs.Prelude.{◌≡◌, ℕ, ◌+◌, ◌*◌, ◌<◌, ◌≤◌, Bool, true, false, cond, nat_le, refl}
+use Rattle.std.specs.Prelude.{ℕ, ◌+◌, ◌<◌, ◌≤◌, nat_le}
 use Rattle.std.proofs.Common.{arith}
 use Rattle.std.proofs.lemmas.Bool.{cond_both, leb-false}
 use Rattle.meaning.specs.declared.report.Mode.{Mode}

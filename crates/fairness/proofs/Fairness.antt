@@ -2,14 +2,14 @@
 --   waits_after      whether a slot waits after some events, by the scheduler and by the history
 --   others_patience  a run in which a slot waits and is not picked has no more picks of others than the slot's patience
 --   fair             fairness, of the answers of a run
-use Rattle.std.proofs.Common.{◌≡◌, ℕ, zero, suc, ◌+◌, ◌<◌, ◌≤◌, Bool, true, false, cond, not, ◌&&◌, ◌||◌, eqb, ltb, leb, ◌⊎◌, List, [], ◌∷◌, ◌++◌, length, take, drop, Some, None, Option, sym, refl, ap, ◌∙◌, subst, inl, inr, ⊎_elim, add-zero, arith, length-take}
+use Rattle.std.proofs.Common.{◌≡◌, ℕ, zero, suc, ◌+◌, ◌<◌, ◌≤◌, Bool, true, false, not, ◌&&◌, ◌||◌, eqb, ◌⊎◌, List, [], ◌∷◌, length, take, drop, Some, None, Option, sym, refl, ap, ◌∙◌, subst, ⊎_elim, add-zero, arith, length-take}
 use Rattle.std.proofs.lemmas.Bool.{cases_eq, cases_lt, eq-eqb, ne_eqb, both_ways, and_from, and_left, and_right, cond-true}
 use Rattle.std.proofs.lemmas.Bool.Decides.{nat_tests}
 use Rattle.meaning.specs.Scheduling.{Scheduling, SchedulingLaws}
 use Rattle.fairness.specs.declared.event.Event.{Event}
 use Rattle.fairness.specs.declared.event.Event.TheVariants.{Raise, Lower, Pick}
-use Rattle.fairness.specs.Events.{stepped, answer_to, state_after, answers}
-use Rattle.fairness.specs.Fair.{in_range, waiting, stretch, answers_in, times_picked, answered, Fair}
+use Rattle.fairness.specs.Events.{state_after, answers}
+use Rattle.fairness.specs.Fair.{in_range, waiting, stretch, times_picked, answered, Fair}
 use Rattle.fairness.proofs.Stretches.{answers_stretch, state_stretch}
 
 or_false : (a b : Bool) → b ≡ false → (a || b) ≡ a

@@ -7,7 +7,7 @@ use Rattle.std.proofs.Common.{◌≡◌, ℕ, zero, suc, ◌+◌, ◌≤◌, Lis
 use Rattle.meaning.specs.Scheduling.{Scheduling}
 use Rattle.fairness.specs.declared.event.Event.{Event}
 use Rattle.fairness.specs.declared.event.Event.TheVariants.{Raise, Lower, Pick}
-use Rattle.fairness.specs.Events.{stepped, answer_to, state_after, answers}
+use Rattle.fairness.specs.Events.{stepped, state_after, answers}
 use Rattle.fairness.specs.Fair.{stretch, picks_in, answers_in}
 
 module _ {S : Type 0} (k : Scheduling S) where

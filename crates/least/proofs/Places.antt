@@ -1,8 +1,8 @@
 -- The first least place as a function is the first least place as a fact, and there is one only.
-use Rattle.std.proofs.Common.{◌≡◌, ℕ, zero, suc, ◌<◌, ◌≤◌, Bool, true, false, cond, ◌⊎◌, List, [], ◌∷◌, length, get_or, Some, None, Option, sym, refl, ap, ◌∙◌, inl, inr, ⊎_elim, arith}
+use Rattle.std.proofs.Common.{◌≡◌, ℕ, zero, suc, ◌<◌, Bool, true, false, cond, List, [], ◌∷◌, length, get_or, Some, None, Option, sym, refl, ap, ◌∙◌, ⊎_elim, arith}
 use Rattle.std.proofs.lemmas.List.{get_or_default}
-use Rattle.std.proofs.lemmas.Bool.{cases_Bool, cases_order, both_ways}
-use Rattle.least.specs.Order.{Order, First, Least, shifted, against, first_least}
+use Rattle.std.proofs.lemmas.Bool.{cases_order, both_ways}
+use Rattle.least.specs.Order.{Order, Least, shifted, against, first_least}
 use Rattle.least.proofs.Steps.{upto_self}
 
 module _ {X : Type 0} (takes : X → Bool) (upto : X → X → Bool) where

@@ -3,7 +3,7 @@
 --   any_below_none  else each of them fails
 --   any_below_true  one that passes is enough
 --   any_below_false it fails where each of them does
-use Rattle.std.proofs.Common.{◌≡◌, ℕ, zero, suc, ◌<◌, Bool, true, false, ◌||◌, ◌⊎◌, refl, ⊎_elim, arith}
+use Rattle.std.proofs.Common.{◌≡◌, ℕ, zero, suc, ◌<◌, Bool, true, false, refl, ⊎_elim, arith}
 use Rattle.std.proofs.lemmas.Bool.{or_cases, or_parts, or_from, cases_Bool, both_ways, cases_eq, false≢true}
 use Rattle.meaning.specs.Below.{any_below}
 

@@ -3,7 +3,7 @@
 --   ControlLaws k      what is so of every controller
 --   told_all k c rs     the controller c after the reports rs, the first one first
 --   paths_after p rs    the path estimate after the samples of the reports in range
-use Rattle.std.specs.Prelude.{◌≡◌, ℕ, ◌≤◌, Bool, true, false, cond, List, [], ◌∷◌, Option}
+use Rattle.std.specs.Prelude.{◌≡◌, ℕ, ◌≤◌, true, false, cond, List, [], ◌∷◌, Option}
 use Rattle.meaning.specs.declared.path.PathEstimate.{PathEstimate}
 use Rattle.meaning.specs.declared.report.Report.{Report}
 use Rattle.meaning.specs.Paths.{path_after}

@@ -5,7 +5,7 @@
 --   next_estimate p r          a later sample: V = (3V + |S - r|) / 4 with the old S, then S = (7S + r) / 8
 --   path_after p sample        the estimate after a sample, if there is one in range
 use Rattle.std.specs.Prelude.{◌≡◌, ℕ, ◌+◌, ◌-◌, ◌*◌, ◌/◌, ◌≤◌, Bool, true, false, ◌&&◌, Some, None, Option, nat_le, refl}
-use Rattle.std.proofs.Common.{sym, arith}
+use Rattle.std.proofs.Common.{arith}
 use Rattle.std.proofs.lemmas.Bool.{and_parts, leb-true}
 use Rattle.meaning.specs.declared.path.PathEstimate.{PathEstimate}
 

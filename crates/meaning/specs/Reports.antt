@@ -5,7 +5,7 @@
 --   heard r            the mode of a report in range; absent if the report is to be ignored
 --   when_heard o f s   f of the mode, or s itself where the report is ignored
 --   told_by p f s r    what a report makes of s: its sample is taken by p, then its mode by f; nothing if it is ignored
-use Rattle.std.specs.Prelude.{ℕ, ◌^◌, Bool, true, false, cond, ◌&&◌, Some, None, Option, ◌==◌, nat_le, nat_lt}
+use Rattle.std.specs.Prelude.{ℕ, ◌^◌, Bool, true, cond, ◌&&◌, Some, None, Option, ◌==◌, nat_le, nat_lt}
 use Rattle.meaning.specs.declared.report.Mode.{Mode}
 use Rattle.meaning.specs.declared.report.Mode.TheVariants.{Clear, Loss, Mark, Silence}
 use Rattle.meaning.specs.declared.report.Report.{Report}

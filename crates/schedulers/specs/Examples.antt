@@ -2,7 +2,7 @@
 --   two_waiting  a fresh round robin over 32 places, where place 0 waits with weight 2 and place 1 with weight 1
 --   TwoToOne   its picks are 0, 0, 1, 0, 0, 1
 --   Bound248    the bound of every round robin over 32 places is 248
-use Rattle.std.specs.Prelude.{◌≡◌, ℕ, List, [], ◌∷◌, Some, Option}
+use Rattle.std.specs.Prelude.{◌≡◌, [], ◌∷◌, Some}
 use Rattle.meaning.specs.Scheduling.{picks}
 use Rattle.schedulers.specs.declared.round_robin.RoundRobin.{RoundRobin}
 use Rattle.schedulers.specs.Scheduling.{fresh, round_robin}

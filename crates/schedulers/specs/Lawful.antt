@@ -1,6 +1,6 @@
 -- The weighted round robin keeps the laws of a scheduler, for every number of places.
-use Rattle.std.specs.Prelude.{◌≡◌, ℕ, ◌+◌, ◌-◌, ◌<◌, ◌≤◌, Bool, true, false, cond, not, ◌&&◌, ltb, ◌⊎◌, length, is_some, Some, None, Option, ◌≢◌, nat_le, nat_lt, refl}
-use Rattle.std.proofs.Common.{sym, ◌∙◌, ap, subst, inl, inr, ⊎_elim, arith}
+use Rattle.std.specs.Prelude.{◌≡◌, ℕ, ◌<◌, ◌≤◌, true, false, not, ◌&&◌, ltb, length, is_some, Some, None, Option, ◌≢◌, nat_le, nat_lt, refl}
+use Rattle.std.proofs.Common.{sym, ◌∙◌, ap, inl, inr, ⊎_elim, arith}
 use Rattle.std.proofs.lemmas.List.{get_or-set_same, get_or-set_other, set-get_or}
 use Rattle.std.proofs.lemmas.Bool.{cond_both, and_parts, and_from, and_right, ltb-false, lt-ltb, le-leb, lt-leb, cases_lt, cases_Bool, both_ways}
 use Rattle.meaning.specs.Below.{any_below}
@@ -8,7 +8,7 @@ use Rattle.meaning.specs.Scheduling.{SchedulingLaws}
 use Rattle.meaning.proofs.AnyBelow.{any_below_true, any_below_false}
 use Rattle.schedulers.specs.declared.state.RoundRobinState.{RoundRobinState}
 use Rattle.schedulers.specs.Sound.{Sound}
-use Rattle.schedulers.specs.Rule.{is_weight, weight_of, waits, with_weight, raised, lowered, goes_on, next_waiting, chosen, turned, patience}
+use Rattle.schedulers.specs.Rule.{is_weight, weight_of, waits, with_weight, raised, lowered, next_waiting, chosen, turned, patience}
 use Rattle.schedulers.specs.Scheduling.{fresh, round_robin}
 use Rattle.schedulers.specs.Kept.{first_below, all_zero}
 use Rattle.schedulers.specs.Same.{same}

@@ -17,7 +17,7 @@
 --   turned         the state after a pick
 --   patience       the patience of place i, which is (i - turn) mod N places after the turn
 --   fresh          no place waits, the turn is the last place, and there is no credit
-use Rattle.std.specs.Prelude.{ℕ, zero, suc, ◌+◌, ◌-◌, ◌*◌, ◌%◌, Bool, true, false, cond, not, ◌&&◌, List, replicate, Some, None, Option, ◌==◌, nat_le, nat_lt, slice_index, slice_set}
+use Rattle.std.specs.Prelude.{ℕ, zero, suc, ◌+◌, ◌-◌, ◌*◌, ◌%◌, Bool, cond, not, ◌&&◌, List, replicate, Some, None, Option, ◌==◌, nat_le, nat_lt, slice_index, slice_set}
 use Rattle.schedulers.specs.declared.state.RoundRobinState.{RoundRobinState}
 
 abbrev pub place_after : ℕ → ℕ → ℕ

@@ -3,14 +3,14 @@
 --   raise_yes, raise_no  a raise that is taken, and one that changes nothing
 --   on             when the turn goes on
 --   by_pick        the cases of a pick: the turn goes on, or a search finds a place, or it finds none
-use Rattle.std.specs.Prelude.{◌≡◌, ℕ, ◌-◌, ◌<◌, ◌≤◌, Bool, true, false, cond, not, ◌&&◌, ◌⊎◌, List, length, Some, None, Option, nat_lt, refl}
-use Rattle.std.proofs.Common.{sym, ◌∙◌, ap, inl, inr, ⊎_elim, arith}
+use Rattle.std.specs.Prelude.{◌≡◌, ℕ, ◌<◌, ◌≤◌, Bool, true, false, cond, not, ◌&&◌, ◌⊎◌, List, length, Some, None, Option, nat_lt, refl}
+use Rattle.std.proofs.Common.{ap, ⊎_elim, arith}
 use Rattle.std.proofs.lemmas.List.{set_past, get_or_past}
 use Rattle.std.proofs.lemmas.Bool.{cond-true, cond-false, ltb-true, lt-ltb, le-ltb, both_ways, cases_lt, and_from, and_left, and_right}
 use Rattle.std.proofs.lemmas.Bool.Decides.{nat_tests}
 use Rattle.schedulers.specs.declared.state.RoundRobinState.{RoundRobinState}
 use Rattle.schedulers.specs.Sound.{Sound}
-use Rattle.schedulers.specs.Rule.{is_weight, weight_of, waits, with_weight, raised, lowered, goes_on, next_waiting, chosen, spent, taken_by, after_search, turned}
+use Rattle.schedulers.specs.Rule.{is_weight, weight_of, waits, with_weight, raised, goes_on, next_waiting, chosen, spent, taken_by, after_search, turned}
 
 module _ {N : ℕ} (s : RoundRobinState N) where
   abbrev pub with_weights : List ℕ → RoundRobinState N

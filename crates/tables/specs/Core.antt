@@ -10,7 +10,7 @@
 --   about_nothing n              refusal n, about no slot and no macroflow
 --   at_time m t                  only the last time changes
 --   put m t i s                  the record of the slot i becomes s, at the time t
-use Rattle.std.specs.Prelude.{ℕ, Bool, true, false, cond, ◌&&◌, replicate, Some, None, Option, nat_le, nat_lt, slice_index_or, slice_set}
+use Rattle.std.specs.Prelude.{ℕ, Bool, cond, ◌&&◌, replicate, Some, None, Option, nat_le, nat_lt, slice_index_or, slice_set}
 use Rattle.meaning.specs.declared.refusal.Refusal.{Refusal}
 use Rattle.tables.specs.declared.core_state.Core.{Core}
 use Rattle.tables.specs.declared.stream.Stream.{Stream}

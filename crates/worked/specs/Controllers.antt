@@ -12,7 +12,6 @@ use Rattle.meaning.specs.declared.path.PathEstimate.{PathEstimate}
 use Rattle.meaning.specs.declared.report.Report.{Report}
 use Rattle.meaning.specs.Paths.{smoothed, variation, path_after}
 use Rattle.controllers.specs.declared.aimd.state.AimdState.{AimdState}
-use Rattle.controllers.specs.declared.rate.state.RateState.{RateState}
 use Rattle.controllers.specs.Aimd as aimd
 use Rattle.controllers.specs.Rate as rate
 

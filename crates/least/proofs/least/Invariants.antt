@@ -1,4 +1,3 @@
-use Rattle.std.proofs.Common.{◌≤◌, length}
 use Rattle.least.specs.Order.{Least}
 use Rattle.least.proofs.least.Given as goal
 

@@ -1,4 +1,4 @@
-use Rattle.std.proofs.Common.{◌≡◌, List, length, take, sym, subst}
+use Rattle.std.proofs.Common.{◌≡◌, length, sym, subst}
 use Rattle.std.proofs.lemmas.List.{take_all}
 use Rattle.least.specs.Order.{Least, first_least}
 use Rattle.least.proofs.least_of_first.Goals as goal

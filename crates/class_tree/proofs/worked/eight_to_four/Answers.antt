@@ -1,4 +1,4 @@
-use Rattle.std.proofs.Common.{◌≡◌, refl, ap, ◌∙◌}
+use Rattle.std.proofs.Common.{refl, ap, ◌∙◌}
 use Rattle.meaning.specs.Scheduling.{picks}
 use Rattle.meaning.specs.Below.{any_below}
 use Rattle.class_tree.specs.declared.class_tree.ClassTree.{ClassTree}

@@ -1,4 +1,4 @@
-use Rattle.std.proofs.Common.{vec_items, sym, subst}
+use Rattle.std.proofs.Common.{sym, subst}
 use Rattle.fairness.specs.Fair.{Fair}
 use Rattle.fairness.proofs.Fairness.{fair}
 use Rattle.fairness.proofs.run.carry_out.Goals as goal

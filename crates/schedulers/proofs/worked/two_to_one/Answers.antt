@@ -1,4 +1,4 @@
-use Rattle.std.proofs.Common.{◌≡◌, refl, ap, ◌∙◌}
+use Rattle.std.proofs.Common.{refl, ap, ◌∙◌}
 use Rattle.meaning.specs.Scheduling.{picks}
 use Rattle.schedulers.specs.declared.round_robin.RoundRobin.{RoundRobin}
 use Rattle.schedulers.specs.Scheduling.{round_robin}

@@ -1,2 +1,5 @@
+pub mod Folds
+pub mod State
 pub mod Making
 pub mod Tickets
+pub mod Steps

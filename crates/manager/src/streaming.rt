@@ -1,7 +1,8 @@
-//! The calls about one stream.
+//! The calls about streams.
 ghost use Rattle.std.specs.Prelude.{◌≡◌, OnErr};
 ghost use Rattle.tables.specs.Replies.{reply};
 ghost use Rattle.stream_calls.specs.Calls.{«open» as open_call, request as request_call, report as report_call, move_to as move_call, close as close_call, standing as standing_call, quietest as quietest_call};
+ghost use Rattle.stream_calls.specs.Merges.{merge as merge_call};
 
 use crate::manager_state::Manager;
 use meaning::{Controller, Refusal, Scheduler};
@@ -63,6 +64,21 @@ impl Manager {
         ensures refused { OnErr result ((self.new ≡ self.old) × (schedulers.new ≡ schedulers.old)) }
     {
         stream_calls::move_to(&mut self.core, schedulers, time, slot, macroflow)
+    }
+
+    /// Merges a macroflow into another: every stream that is open in the first moves, the lowest slot
+    /// first.
+    pub fn merge<S: Scheduler>(
+        &mut self,
+        schedulers: &mut [S],
+        time: u64,
+        from: usize,
+        into: usize,
+    ) -> Result<(), Refusal>
+        ensures plain { reply result self.new.core schedulers.new ≡ merge_call S.scheduling self.old.core schedulers.old time from into }
+        ensures refused { OnErr result ((self.new ≡ self.old) × (schedulers.new ≡ schedulers.old)) }
+    {
+        stream_calls::merge(&mut self.core, schedulers, time, from, into)
     }
 
     /// Closes a stream: its waiting requests are dropped, and what is outstanding counts as abandoned.

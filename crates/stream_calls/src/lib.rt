@@ -3,6 +3,7 @@
 
 mod asking;
 mod closing;
+mod merging;
 mod moving;
 mod opening;
 mod reporting;
@@ -11,6 +12,7 @@ mod telling;
 
 pub use asking::{quietest, standing};
 pub use closing::close;
+pub use merging::merge;
 pub use moving::move_to;
 pub use opening::open;
 pub use reporting::{Feedback, report};

@@ -8,7 +8,12 @@ use meaning::{Refusal, Scheduler};
 use tables::{Core, SLOTS, Stream};
 
 /// A slot that waits is lowered in the scheduler of its macroflow, and raised in that of another.
-fn pass_on<S: Scheduler>(schedulers: &mut [S], slot: usize, macroflow: usize, stream: Stream)
+pub(crate) fn pass_on<S: Scheduler>(
+    schedulers: &mut [S],
+    slot: usize,
+    macroflow: usize,
+    stream: Stream,
+)
     requires from { stream.macroflow < length schedulers.old }
     requires into { macroflow < length schedulers.old }
     ensures { schedulers.new ≡ passed_on S.scheduling schedulers.old slot macroflow stream }

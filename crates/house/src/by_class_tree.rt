@@ -1,0 +1,31 @@
+//! Runs with class trees.
+ghost use Rattle.std.specs.Prelude.{◌≡◌, length, IfOk};
+ghost use Rattle.class_tree.specs.Scheduling.{class_tree};
+ghost use Rattle.law.specs.Law.{Promises, BoundedBy};
+ghost use Rattle.law.specs.Runs.{lent, held_with, run_of};
+ghost use Rattle.runs.specs.Ended.{Ended};
+
+use class_tree::ClassTree;
+use manager::Call;
+use meaning::Controller;
+use runs::{Outcome, RunError, run};
+use std::alloc::Global;
+use tables::Row;
+
+/// A run with a class tree for each macroflow: a stream that waits in a macroflow and gets no grant
+/// sees at most 1,424 grants to others there.
+pub fn run_class_tree<C: Controller>(
+    heap: Global,
+    macroflows: usize,
+    controllers: &mut [C],
+    schedulers: &mut [ClassTree],
+    rows: &mut [Row],
+    calls: &[Call],
+) -> Result<Outcome, RunError>
+    ensures plain { Ended C.control class_tree macroflows (lent controllers.old schedulers.old rows.old) calls.now result (lent controllers.new schedulers.new rows.new) }
+    ensures held { IfOk result (λ o. (run_of C.control class_tree macroflows (lent controllers.old schedulers.old rows.old) calls.now o.answers.items).held (length calls.now) ≡ held_with o.manager.core (lent controllers.new schedulers.new rows.new)) }
+    ensures promises { IfOk result (λ o. Promises C.control class_tree (run_of C.control class_tree macroflows (lent controllers.old schedulers.old rows.old) calls.now o.answers.items)) }
+    ensures bounded { IfOk result (λ o. BoundedBy (λ _. 1424) (run_of C.control class_tree macroflows (lent controllers.old schedulers.old rows.old) calls.now o.answers.items)) }
+{
+    run(heap, macroflows, controllers, schedulers, rows, calls)
+}

@@ -1,0 +1,16 @@
+pub mod Ways
+pub mod Sums
+pub mod SlotFacts
+pub mod Changes
+pub mod Ledger
+pub mod Kept
+pub mod Streaming
+pub mod Reporting
+pub mod Moving
+pub mod Granting
+pub mod Polling
+pub mod Sound
+pub mod Exact
+pub mod Stays
+pub mod Fair
+pub mod Laws

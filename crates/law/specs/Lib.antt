@@ -1,0 +1,5 @@
+pub mod Effects
+pub mod Slots
+pub mod History
+pub mod Law
+pub mod Runs

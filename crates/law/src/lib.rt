@@ -1,0 +1,2 @@
+//! The history of a run of calls, and the law that every run keeps.
+#![tactic(auto)]

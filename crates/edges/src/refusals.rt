@@ -136,7 +136,7 @@ fn polls(rt: &impl Print, bench: &mut AimdBench) -> Result<(), Halt> {
     Ok(())
 }
 
-/// What a take_up refuses.
+/// What a take-up refuses.
 fn take_ups(rt: &impl Print, bench: &mut AimdBench) -> Result<(), Halt> {
     bench.lent.rows = 15;
     show(rt, "take up grant 1, 15 rows lent", bench.try_take_up(1))?;

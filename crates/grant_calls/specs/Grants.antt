@@ -3,7 +3,7 @@
 --   row rs g              the row of the grant g
 --   issued_rows m rs      the rows that describe grants
 --   is_covered m r        question 1 of an open row: is its slot open, with open bytes covering the grant?
---   found m rs t g        the first questions of take_up and settle, which give the grant's row
+--   found m rs t g        the first questions of take-up and settle, which give the grant's row
 --   due m rs t            the open row to expire at t: the earliest deadline, then the lower slot, then the lower grant
 use Rattle.std.specs.Prelude.{◌≡◌, ℕ, ◌+◌, ◌-◌, ◌^◌, ◌<◌, ◌≤◌, Bool, not, ◌&&◌, List, [], ◌∷◌, length, take, Some, None, Ok, Option, Result, ◌==◌, nat_le, nat_lt, slice_index_or, slice_set}
 use Rattle.least.specs.Order.{first_least}

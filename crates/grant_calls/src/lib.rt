@@ -1,4 +1,4 @@
-//! The calls about grants: poll, take_up, settle, expire.
+//! The calls about grants: poll, take-up, settle, expire.
 #![tactic(auto)]
 
 mod expiring;

@@ -1,5 +1,5 @@
 -- Tickets as grant numbers. Assumes nothing.
---   numbered r      the answer to a take_up, with the grant's number in the place of the ticket
+--   numbered r      the answer to a take-up, with the grant's number in the place of the ticket
 use Rattle.std.specs.Prelude.{ℕ, Ok, Err, Result}
 use Rattle.meaning.specs.declared.refusal.Refusal.{Refusal}
 use Rattle.manager.specs.declared.ticket.Ticket.{Ticket}

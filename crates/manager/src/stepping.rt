@@ -29,7 +29,7 @@ fn polled(res: Result<Polled, Refusal>) -> Answer
     }
 }
 
-/// The answer of a take_up.
+/// The answer of a take-up.
 fn taken_up(res: Result<usize, Refusal>) -> Answer
     ensures { result ≡ taken_up_answer res }
 {

@@ -6,7 +6,6 @@ mod round_robin;
 mod state;
 mod worked;
 
-use meaning::Scheduler;
 pub use round_robin::RoundRobin;
 pub use state::RoundRobinState;
 pub use worked::two_to_one;

@@ -1,7 +1,6 @@
 -- Sums over the numbers below n.
---   sum-same     equal terms, equal sums
---   sum_is       the history's sum is the manager's
---   sum_most     a bound on each term bounds the sum
+--   sum_is     the history's sum of equal terms is the manager's
+--   sum_most   a bound on each term bounds the sum
 use Rattle.std.proofs.Common.{◌≡◌, ℕ, zero, suc, ◌+◌, ◌*◌, ◌<◌, ◌≤◌, refl, ap₂, suc-mul, arith}
 use Rattle.meaning.specs.Below.{sum_below}
 use Rattle.law.specs.History.{sum_to}

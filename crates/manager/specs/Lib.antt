@@ -1,4 +1,3 @@
-pub mod Folds
 pub mod State
 pub mod Making
 pub mod Tickets

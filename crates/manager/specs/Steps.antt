@@ -10,7 +10,7 @@
 use Rattle.std.specs.Prelude.{ℕ, List, [], ◌∷◌, Ok, Err, Option, Result}
 use Rattle.meaning.specs.declared.refusal.Refusal.{Refusal}
 use Rattle.meaning.specs.Control.{Control}
-use Rattle.manager.specs.Folds.{all_done, all_said}
+use Rattle.folds.specs.Folds.{all_done, all_said}
 use Rattle.meaning.specs.Scheduling.{Scheduling}
 use Rattle.tables.specs.declared.row.Row.{Row}
 use Rattle.tables.specs.Replies.{Reply}

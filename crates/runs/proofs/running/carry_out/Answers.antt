@@ -1,5 +1,5 @@
 use Rattle.std.proofs.Common.{[], ◌∷◌, ◌++◌, vec_items, refl, ap, ◌∙◌, arith}
-use Rattle.manager.proofs.Folding.{leads_more, leads_end}
+use Rattle.folds.proofs.Folding.{leads_more, leads_end}
 use Rattle.manager.specs.State.{state}
 use Rattle.manager.specs.Steps.{goes, says}
 use Rattle.runs.proofs.running.carry_out.Goals as goal

@@ -1,5 +1,5 @@
 use Rattle.std.proofs.Common.{◌≡◌, ◌≤◌, length, drop, vec_items, vec_len, vec_capacity}
-use Rattle.manager.proofs.Folding.{Leads}
+use Rattle.folds.proofs.Folding.{Leads}
 use Rattle.manager.specs.State.{state}
 use Rattle.manager.specs.Steps.{goes, says}
 use Rattle.runs.proofs.running.carry_out.Given as goal

@@ -5,7 +5,7 @@
 --   leads_end    nothing is left
 use Rattle.std.proofs.Common.{◌≡◌, ℕ, ◌+◌, ◌<◌, ◌≤◌, List, [], ◌++◌, length, get_or, drop, sym, refl, ap, ◌∙◌, subst, append_assoc}
 use Rattle.std.proofs.lemmas.List.{append-nil, at_drop_more, at_drop_all}
-use Rattle.manager.specs.Folds.{all_done, all_said}
+use Rattle.folds.specs.Folds.{all_done, all_said}
 
 module _ {S X A : Type 0} (step : S → X → S) (says : S → X → List A) (start : S) (things : List X) where
   pub record Leads (now : S) (said : List A) (left : List X) : Type 0 where

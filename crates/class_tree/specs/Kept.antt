@@ -7,10 +7,11 @@
 --   slots_set     the slots of class d after those of class c are replaced
 --   set_sound     a tree stays sound where the slots of class c are replaced, if class c then waits as they say
 --   raised_sound, lowered_sound, after_sound, turned_sound  so it stays sound after a raise, a lower and a pick
-use Rattle.std.specs.Prelude.{◌≡◌, ℕ, zero, suc, ◌/◌, ◌%◌, ◌<◌, ◌≤◌, Bool, true, false, ◌⊎◌, length, get_or, Some, None, Option, ◌≢◌, slice_index_or, slice_set, refl}
+use Rattle.std.specs.Prelude.{◌≡◌, ℕ, zero, suc, ◌/◌, ◌%◌, ◌<◌, ◌≤◌, Bool, true, ◌⊎◌, length, Some, None, Option, ◌≢◌, slice_index_or, slice_set, refl}
 use Rattle.std.proofs.Common.{sym, ◌∙◌, ap, inl, inr, ⊎_elim, arith, length-set}
-use Rattle.std.proofs.lemmas.List.{get_or-set_same, get_or-set_other, get_or_past, set_past}
-use Rattle.std.proofs.lemmas.Bool.{cond_both, cases_lt, cases_eq, cases_Bool, both_ways}
+use Rattle.std.proofs.lemmas.List.{get_or_past}
+use Rattle.std.proofs.lemmas.Grind.{common_steps}
+use Rattle.std.proofs.lemmas.Bool.{false_from_ne_true, cond_both, cases_lt, cases_eq, cases_Bool, both_ways}
 use Rattle.meaning.proofs.AnyBelow.{any_below_some, any_below_true, any_below_false}
 use Rattle.class_tree.specs.Levels.{Levels, Tree}
 use Rattle.class_tree.specs.Rule.{class_weight, any_waits, slots_of, Sound, slots_raised, class_raised, raised, slots_lowered, class_lowered, lowered, slots_after, turned}
@@ -22,9 +23,7 @@ class_weight_range (suc (suc zero)) = (omega arith, omega arith)
 class_weight_range (suc (suc (suc c))) = (omega arith, omega arith)
 
 same_tests : (a b : Bool) → (a ≡ true → b ≡ true) → (b ≡ true → a ≡ true) → a ≡ b
-same_tests true b f h = sym (f refl)
-same_tests false true f h = h refl
-same_tests false false f h = refl
+same_tests a b f h = grind (arith, cases_Bool a, cases_Bool b, f, h)
 
 -- whether a slot of a class waits, as the class's own slots change
 module _ (k : Levels) where
@@ -34,10 +33,10 @@ module _ (k : Levels) where
   any_raised : (m : k.Inner) (p w : ℕ) → any_waits k m ≡ true → any_waits k (k.inner.raised m p w) ≡ true
   any_raised m p w e =
       let one = any_below_some 8 (k.inner.waits m) e in
-      ⊎_elim
-      (λ (q : one.0 ≡ p). ap (λ (t : k.Inner). any_waits k t) (k.inner_laws.raise_waiting m p w (ap (λ x. k.inner.waits m x) (sym q) ∙ one.2)) ∙ e)
-      (λ (q : one.0 ≡ p → ⊥). any_one (k.inner.raised m p w) one.0 (k.inner_laws.raise_others m p w one.0 q ∙ one.2))
-      (cases_eq one.0 p)
+      elim (cases_eq one.0 p) [
+        | inl q ↦ ap (λ (t : k.Inner). any_waits k t) (k.inner_laws.raise_waiting m p w (ap (λ x. k.inner.waits m x) (sym q) ∙ one.2)) ∙ e
+        | inr q ↦ any_one (k.inner.raised m p w) one.0 (k.inner_laws.raise_others m p w one.0 q ∙ one.2)
+      ]
 
   any_lowered : (m : k.Inner) (p : ℕ) → any_waits k (k.inner.lowered m p) ≡ true → any_waits k m ≡ true
   any_lowered m p e =
@@ -58,18 +57,7 @@ module _ (k : Levels) (t : Tree k) (sound : Sound k t) where
   pub slots_set : (c d : ℕ) (m : k.Inner)
       → ((d ≡ c) × (c < 4) × (slice_index_or (slice_set t.slots c m) d k.fresh ≡ m)) ⊎ ((slice_index_or (slice_set t.slots c m) d k.fresh ≡ slots_of k t d) × ((d ≢ c) ⊎ (4 ≤ d)))
   slots_set c d m =
-      ⊎_elim
-      (λ (e : d ≡ c).
-      ⊎_elim
-      (λ (l : c < 4).
-      let h : c < length t.slots = omega (arith, sound.0) in
-      inl (e, l, ap (λ x. get_or (slice_set t.slots c m) x k.fresh) e ∙ get_or-set_same t.slots c m k.fresh h))
-      (λ (l : 4 ≤ c).
-      let h : length t.slots ≤ c = omega (arith, sound.0) in
-      inr (ap (λ x. get_or x d k.fresh) (set_past t.slots c m h), inr (omega arith)))
-      (cases_lt c 4))
-      (λ (ne : d ≡ c → ⊥). inr (get_or-set_other t.slots c d m k.fresh ne, inl ne))
-      (cases_eq d c)
+      let four = sound.0 in grind (arith, common_steps, cases_eq d c, cases_lt c 4)
 
   set_sound : (classes : k.Outer) (c : ℕ) (m : k.Inner)
       → ((d : ℕ) → (d ≢ c) → k.outer.waits classes d ≡ k.outer.waits t.classes d)
@@ -87,10 +75,7 @@ module _ (k : Levels) (t : Tree k) (sound : Sound k t) where
     where
       past : (d : ℕ) → 4 ≤ d → k.outer.waits classes d ≡ any_waits k (slots_of k t d)
       past d l =
-          ⊎_elim
-          (λ (b : k.outer.waits classes d ≡ true). absurd (let h : d < 4 = k.outer_laws.waits_below classes d b in omega arith))
-          (λ (b : k.outer.waits classes d ≡ false). b)
-          (cases_Bool (k.outer.waits classes d))
+          false_from_ne_true (k.outer.waits classes d) (λ b. let h : d < 4 = k.outer_laws.waits_below classes d b in omega arith)
           ∙ sym (ap (λ (y : k.Inner). any_waits k y) (slots_past d l) ∙ any_below_false 8 (k.inner.waits k.fresh) k.fresh_idle)
 
   pub raised_sound : (i w : ℕ) → Sound k (raised k t i w)
@@ -102,11 +87,7 @@ module _ (k : Levels) (t : Tree k) (sound : Sound k t) where
       (λ _. k.outer_laws.raise_others t.classes c (class_weight c) d ne) (λ _. refl))
       (λ l. cond_both (any_waits k m) (k.outer.raised t.classes c (class_weight c)) t.classes (λ x. k.outer.waits x c ≡ any_waits k m)
       (λ b. k.outer_laws.raise_adds t.classes c (class_weight c) l (class_weight_range c).0 (class_weight_range c).1 ∙ sym b)
-      (λ b. sound.1 c ∙
-      ⊎_elim
-      (λ (a : any_waits k (slots_of k t c) ≡ true). absurd (both_ways (any_waits k m) b (any_raised k (slots_of k t c) (i % 8) w a)))
-      (λ (a : any_waits k (slots_of k t c) ≡ false). a ∙ sym b)
-      (cases_Bool (any_waits k (slots_of k t c)))))
+      (λ b. sound.1 c ∙ false_from_ne_true (any_waits k (slots_of k t c)) (λ a. both_ways (any_waits k m) b (any_raised k (slots_of k t c) (i % 8) w a)) ∙ sym b))
 
   pub lowered_sound : (i : ℕ) → Sound k (lowered k t i)
   lowered_sound i =

@@ -1,8 +1,8 @@
 -- A tree of two levels keeps the laws of a scheduler of 32 slots, by the laws of the levels alone.
 use Rattle.std.specs.Prelude.{◌≡◌, ℕ, ◌+◌, ◌*◌, ◌/◌, ◌%◌, ◌<◌, ◌≤◌, true, false, ◌⊎◌, List, length, Some, None, Option, ◌≢◌, slice_index_or, slice_set, refl}
-use Rattle.std.proofs.Common.{sym, ◌∙◌, ap, subst, ⊎_elim, arith}
+use Rattle.std.proofs.Common.{inl, inr, sym, ◌∙◌, ap, subst, ⊎_elim, arith}
 use Rattle.std.proofs.lemmas.List.{set-get_or, set_past}
-use Rattle.std.proofs.lemmas.Bool.{cond_both, cases_lt, cases_eq, cases_Bool, both_ways}
+use Rattle.std.proofs.lemmas.Bool.{false_from_ne_true, cond_both, cases_lt, cases_eq, both_ways}
 use Rattle.meaning.proofs.AnyBelow.{any_below_false}
 use Rattle.class_tree.specs.Levels.{Levels, Tree}
 use Rattle.class_tree.specs.Rule.{class_weight, slot_in, any_waits, slots_of, Sound, waits, weight, slots_raised, class_raised, raised, slots_lowered, class_lowered, lowered, chosen_in, chosen, slots_after, turned, patience}
@@ -30,7 +30,7 @@ module _ (k : Levels) (t : Tree k) (sound : Sound k t) where
   waits_past i l = ap (λ (m : k.Inner). k.inner.waits m (i % 8)) (slots_past k t sound (i / 8) (omega arith)) ∙ k.fresh_idle (i % 8)
 
   pub waits_below : (i : ℕ) → waits k t i ≡ true → i < 32
-  waits_below i b = ⊎_elim (λ (l : i < 32). l) (λ (l : 32 ≤ i). absurd (both_ways (waits k t i) (waits_past i l) b)) (cases_lt i 32)
+  waits_below i b = grind (arith, waits_past i, cases_lt i 32)
 
   -- the class of a slot that waits does too
   class_waits : (i : ℕ) → waits k t i ≡ true → k.outer.waits t.classes (i / 8) ≡ true
@@ -42,10 +42,18 @@ module _ (k : Levels) (t : Tree k) (sound : Sound k t) where
       → (((j / 8 ≢ c) ⊎ (4 ≤ j / 8)) → P (slots_of k t (j / 8)))
       → P (slice_index_or (slice_set t.slots c m) (j / 8) k.fresh)
   after_set P c m j here there =
-      ⊎_elim
-      (λ (x : (j / 8 ≡ c) × (c < 4) × (slice_index_or (slice_set t.slots c m) (j / 8) k.fresh ≡ m)). subst P (sym x.2) (here x.0 x.1))
-      (λ (x : (slice_index_or (slice_set t.slots c m) (j / 8) k.fresh ≡ slots_of k t (j / 8)) × ((j / 8 ≢ c) ⊎ (4 ≤ j / 8))). subst P (sym x.0) (there x.1))
-      (slots_set k t sound c (j / 8) m)
+      elim (slots_set k t sound c (j / 8) m) [ inl x ↦ subst P (sym x.2) (here x.0 x.1) | inr x ↦ subst P (sym x.0) (there x.1) ]
+
+  -- What a question about the slots of j's class answers stays, where the slots that were put in place answer it as before.
+  after_same : {X : Type 0} (f : k.Inner → X) (c : ℕ) (m : k.Inner) (j : ℕ)
+      → (j / 8 ≡ c → f m ≡ f (slots_of k t c))
+      → f (slice_index_or (slice_set t.slots c m) (j / 8) k.fresh) ≡ f (slots_of k t (j / 8))
+  after_same f c m j h =
+      after_set (λ x. f x ≡ f (slots_of k t (j / 8))) c m j (λ e _. h e ∙ ap (λ d. f (slots_of k t d)) (sym e)) (λ _. refl)
+
+  -- slot j, of class c, waits among the slots of c
+  waits_there : (j c : ℕ) → waits k t j ≡ true → j / 8 ≡ c → k.inner.waits (slots_of k t c) (j % 8) ≡ true
+  waits_there j c b e = subst (λ d. k.inner.waits (slots_of k t d) (j % 8) ≡ true) e b
 
   -- raise
   pub raise_adds : (i w : ℕ) → i < 32 → 1 ≤ w → w ≤ 8 → waits k (raised k t i w) i ≡ true
@@ -62,17 +70,13 @@ module _ (k : Levels) (t : Tree k) (sound : Sound k t) where
 
   pub raise_others : (i w j : ℕ) → (j ≢ i) → waits k (raised k t i w) j ≡ waits k t j
   raise_others i w j ne =
-      after_set (λ m. k.inner.waits m (j % 8) ≡ waits k t j) (i / 8) (slots_raised k t i w) j
-      (λ e _. k.inner_laws.raise_others (slots_of k t (i / 8)) (i % 8) w (j % 8) (apart i j ne e) ∙ ap (λ c. k.inner.waits (slots_of k t c) (j % 8)) (sym e))
-      (λ _. refl)
+      after_same (λ m. k.inner.waits m (j % 8)) (i / 8) (slots_raised k t i w) j
+      (λ e. k.inner_laws.raise_others (slots_of k t (i / 8)) (i % 8) w (j % 8) (apart i j ne e))
 
   pub raise_other_weights : (i w j : ℕ) → waits k t j ≡ true → (j ≢ i) → weight k (raised k t i w) j ≡ weight k t j
   raise_other_weights i w j b ne =
-      after_set (λ m. k.inner.weight m (j % 8) ≡ weight k t j) (i / 8) (slots_raised k t i w) j
-      (λ e _.
-      k.inner_laws.raise_other_weights (slots_of k t (i / 8)) (i % 8) w (j % 8) (subst (λ c. k.inner.waits (slots_of k t c) (j % 8) ≡ true) e b) (apart i j ne e)
-      ∙ ap (λ c. k.inner.weight (slots_of k t c) (j % 8)) (sym e))
-      (λ _. refl)
+      after_same (λ m. k.inner.weight m (j % 8)) (i / 8) (slots_raised k t i w) j
+      (λ e. k.inner_laws.raise_other_weights (slots_of k t (i / 8)) (i % 8) w (j % 8) (waits_there j (i / 8) b e) (apart i j ne e))
 
   -- slots that are put back as they were
   put_back : (c : ℕ) (m : k.Inner) → m ≡ slots_of k t c → slice_set t.slots c m ≡ t.slots
@@ -105,21 +109,17 @@ module _ (k : Levels) (t : Tree k) (sound : Sound k t) where
   lower_removes i =
       after_set (λ m. k.inner.waits m (i % 8) ≡ false) (i / 8) (slots_lowered k t i) i
       (λ _ _. k.inner_laws.lower_removes (slots_of k t (i / 8)) (i % 8))
-      (λ x. ⊎_elim (λ (ne : i / 8 ≡ i / 8 → ⊥). absurd (ne refl)) (λ (l : 4 ≤ i / 8). waits_past i (omega arith)) x)
+      (λ x. elim x [ inl ne ↦ absurd (ne refl) | inr l ↦ waits_past i (omega arith) ])
 
   pub lower_others : (i j : ℕ) → (j ≢ i) → waits k (lowered k t i) j ≡ waits k t j
   lower_others i j ne =
-      after_set (λ m. k.inner.waits m (j % 8) ≡ waits k t j) (i / 8) (slots_lowered k t i) j
-      (λ e _. k.inner_laws.lower_others (slots_of k t (i / 8)) (i % 8) (j % 8) (apart i j ne e) ∙ ap (λ c. k.inner.waits (slots_of k t c) (j % 8)) (sym e))
-      (λ _. refl)
+      after_same (λ m. k.inner.waits m (j % 8)) (i / 8) (slots_lowered k t i) j
+      (λ e. k.inner_laws.lower_others (slots_of k t (i / 8)) (i % 8) (j % 8) (apart i j ne e))
 
   pub lower_other_weights : (i j : ℕ) → waits k t j ≡ true → (j ≢ i) → weight k (lowered k t i) j ≡ weight k t j
   lower_other_weights i j b ne =
-      after_set (λ m. k.inner.weight m (j % 8) ≡ weight k t j) (i / 8) (slots_lowered k t i) j
-      (λ e _.
-      k.inner_laws.lower_other_weights (slots_of k t (i / 8)) (i % 8) (j % 8) (subst (λ c. k.inner.waits (slots_of k t c) (j % 8) ≡ true) e b) (apart i j ne e)
-      ∙ ap (λ c. k.inner.weight (slots_of k t c) (j % 8)) (sym e))
-      (λ _. refl)
+      after_same (λ m. k.inner.weight m (j % 8)) (i / 8) (slots_lowered k t i) j
+      (λ e. k.inner_laws.lower_other_weights (slots_of k t (i / 8)) (i % 8) (j % 8) (waits_there j (i / 8) b e) (apart i j ne e))
 
   pub lower_idle : (i : ℕ) → waits k t i ≡ false → lowered k t i ≡ t
   lower_idle i b =
@@ -155,17 +155,14 @@ module _ (k : Levels) (t : Tree k) (sound : Sound k t) where
   pick_absent e i =
       by_pick (λ o _. o ≡ None → waits k t i ≡ false)
       (λ h _.
-      ⊎_elim
-      (λ (b : waits k t i ≡ true). absurd (both_ways (k.outer.waits t.classes (i / 8)) (k.outer_laws.pick_absent t.classes h (i / 8)) (class_waits i b)))
-      (λ (b : waits k t i ≡ false). b)
-      (cases_Bool (waits k t i)))
-      (λ c p h g f. absurd (let z : ◌≡◌ {A = ℕ} 0 1 = cc in omega arith))
+      false_from_ne_true (waits k t i) (λ b. both_ways (k.outer.waits t.classes (i / 8)) (k.outer_laws.pick_absent t.classes h (i / 8)) (class_waits i b)))
+      (λ c p h g f. cc)
       e
 
   pub pick_waits : (i : ℕ) → chosen k t ≡ Some i → waits k t i ≡ true
   pick_waits i e =
       by_pick (λ o _. o ≡ Some i → waits k t i ≡ true)
-      (λ h f. absurd (let z : ◌≡◌ {A = ℕ} 0 1 = cc in omega arith))
+      (λ h f. cc)
       (λ c p h g f.
       let m = slots_of k t c in
       let b : k.inner.waits m p ≡ true = k.inner_laws.pick_waits m p g in
@@ -186,35 +183,28 @@ module _ (k : Levels) (t : Tree k) (sound : Sound k t) where
   pick_still e =
       by_pick (λ o x. o ≡ None → x ≡ t)
       (λ h _. same_parts (k.outer_laws.pick_still t.classes h) refl)
-      (λ c p h g f. absurd (let z : ◌≡◌ {A = ℕ} 0 1 = cc in omega arith))
+      (λ c p h g f. cc)
       e
 
   pub pick_keeps : (i : ℕ) → waits k (turned k t) i ≡ waits k t i
   pick_keeps i =
       by_pick (λ _ x. waits k x i ≡ waits k t i)
       (λ _. refl)
-      (λ c p _ _.
-      after_set (λ m. k.inner.waits m (i % 8) ≡ waits k t i) c (k.inner.turned (slots_of k t c)) i
-      (λ e _. k.inner_laws.pick_keeps (slots_of k t c) (i % 8) ∙ ap (λ d. k.inner.waits (slots_of k t d) (i % 8)) (sym e))
-      (λ _. refl))
+      (λ c p _ _. after_same (λ m. k.inner.waits m (i % 8)) c (k.inner.turned (slots_of k t c)) i (λ _. k.inner_laws.pick_keeps (slots_of k t c) (i % 8)))
 
   pub pick_weights : (i : ℕ) → waits k t i ≡ true → weight k (turned k t) i ≡ weight k t i
   pick_weights i b =
       by_pick (λ _ x. weight k x i ≡ weight k t i)
       (λ _. refl)
       (λ c p _ _.
-      after_set (λ m. k.inner.weight m (i % 8) ≡ weight k t i) c (k.inner.turned (slots_of k t c)) i
-      (λ e _.
-      k.inner_laws.pick_weights (slots_of k t c) (i % 8) (subst (λ d. k.inner.waits (slots_of k t d) (i % 8) ≡ true) e b)
-      ∙ ap (λ d. k.inner.weight (slots_of k t d) (i % 8)) (sym e))
-      (λ _. refl))
+      after_same (λ m. k.inner.weight m (i % 8)) c (k.inner.turned (slots_of k t c)) i (λ e. k.inner_laws.pick_weights (slots_of k t c) (i % 8) (waits_there i c b e)))
 
   -- A pick of another class lowers the part of the class. One of the same class lowers the part of the slot by 25 at least,
   -- and the part of the class stays within its bound of 24.
   pub pick_patience : (i j : ℕ) → chosen k t ≡ Some i → waits k t j ≡ true → (j ≢ i) → patience k (turned k t) j < patience k t j
   pick_patience i j e b ne =
       by_pick (λ o x. o ≡ Some i → patience k x j < patience k t j)
-      (λ h f. absurd (let z : ◌≡◌ {A = ℕ} 0 1 = cc in omega arith))
+      (λ h f. cc)
       (λ c p h g f.
       let q : c * 8 + p ≡ i = cc in
       let s = slots_of k t c in
@@ -224,14 +214,14 @@ module _ (k : Levels) (t : Tree k) (sound : Sound k t) where
       after_set (λ m. 25 * k.inner.patience m (j % 8) + k.outer.patience classes (j / 8) < patience k t j) c (k.inner.turned s) j
       (λ same _.
       let other : j % 8 ≡ p → ⊥ = λ y. ne (let z = same in omega arith) in
-      let here : k.inner.waits s (j % 8) ≡ true = subst (λ d. k.inner.waits (slots_of k t d) (j % 8) ≡ true) same b in
+      let here : k.inner.waits s (j % 8) ≡ true = waits_there j c b same in
       let less : k.inner.patience (k.inner.turned s) (j % 8) < k.inner.patience s (j % 8) = k.inner_laws.pick_patience s p (j % 8) g here other in
       let old : k.inner.patience (slots_of k t (j / 8)) (j % 8) ≡ k.inner.patience s (j % 8) = ap (λ d. k.inner.patience (slots_of k t d) (j % 8)) same in
       let most : k.outer.patience classes (j / 8) ≤ k.outer.bound classes = k.outer_laws.bounded classes (j / 8) (k.outer_laws.pick_keeps t.classes (j / 8) ∙ class) in
       omega (arith, k.outer_bound classes))
       (λ why.
       let below : j < 32 = waits_below j b in
-      let differ : j / 8 ≡ c → ⊥ = ⊎_elim (λ (n : j / 8 ≡ c → ⊥). n) (λ (y : 4 ≤ j / 8). absurd (omega arith)) why in
+      let differ : j / 8 ≡ c → ⊥ = elim why [ inl n ↦ n | inr y ↦ absurd (omega arith) ] in
       let less : k.outer.patience classes (j / 8) < k.outer.patience t.classes (j / 8) = k.outer_laws.pick_patience t.classes c (j / 8) h class differ in
       omega arith))
       e
@@ -261,13 +251,12 @@ module _ (k : Levels) (t : Tree k) (sound : Sound k t) where
       (cond_both (any_waits k m) (k.outer.raised t.classes c (class_weight c)) t.classes (λ x. k.outer.patience x (j / 8) ≤ k.outer.patience t.classes (j / 8))
       (λ _. ⊎_elim
       (λ (y : j / 8 ≡ c).
-      let still : k.outer.raised t.classes c (class_weight c) ≡ t.classes = k.outer_laws.raise_waiting t.classes c (class_weight c) (subst (λ d. k.outer.waits t.classes d ≡ true) y (class_waits j b)) in
-      let same : k.outer.patience (k.outer.raised t.classes c (class_weight c)) (j / 8) ≡ k.outer.patience t.classes (j / 8) = ap (λ (x : k.Outer). k.outer.patience x (j / 8)) still in
-      omega arith)
+      let still = k.outer_laws.raise_waiting t.classes c (class_weight c) (subst (λ d. k.outer.waits t.classes d ≡ true) y (class_waits j b)) in
+      omega (arith, ap (λ (x : k.Outer). k.outer.patience x (j / 8)) still))
       (λ (y : j / 8 ≡ c → ⊥). k.outer_laws.raise_patience t.classes c (class_weight c) (j / 8) (class_waits j b) y)
       (cases_eq (j / 8) c))
       (λ _. omega arith))
-      (λ y. k.inner_laws.raise_patience (slots_of k t c) (i % 8) w (j % 8) (subst (λ d. k.inner.waits (slots_of k t d) (j % 8) ≡ true) y b) (apart i j ne y))
+      (λ y. k.inner_laws.raise_patience (slots_of k t c) (i % 8) w (j % 8) (waits_there j c b y) (apart i j ne y))
 
   pub lower_patience : (i j : ℕ) → waits k t j ≡ true → (j ≢ i) → patience k (lowered k t i) j ≤ patience k t j
   lower_patience i j b ne =
@@ -279,8 +268,8 @@ module _ (k : Levels) (t : Tree k) (sound : Sound k t) where
       (λ _. omega arith)
       (λ a. ⊎_elim
       (λ (y : j / 8 ≡ c).
-      let on : k.inner.waits m (j % 8) ≡ true = k.inner_laws.lower_others s (i % 8) (j % 8) (apart i j ne y) ∙ subst (λ d. k.inner.waits (slots_of k t d) (j % 8) ≡ true) y b in
+      let on : k.inner.waits m (j % 8) ≡ true = k.inner_laws.lower_others s (i % 8) (j % 8) (apart i j ne y) ∙ waits_there j c b y in
       absurd (both_ways (any_waits k m) a (any_one k m (j % 8) on)))
       (λ (y : j / 8 ≡ c → ⊥). k.outer_laws.lower_patience t.classes c (j / 8) (class_waits j b) y)
       (cases_eq (j / 8) c)))
-      (λ y. k.inner_laws.lower_patience s (i % 8) (j % 8) (subst (λ d. k.inner.waits (slots_of k t d) (j % 8) ≡ true) y b) (apart i j ne y))
+      (λ y. k.inner_laws.lower_patience s (i % 8) (j % 8) (waits_there j c b y) (apart i j ne y))

@@ -17,9 +17,7 @@ mod tests {
     #[test]
     fn worked_values(rt: HostRuntime) {
         let mut expected = [Some(0); 12];
-        for i in 8..12 {
-            expected[i] = Some(8);
-        }
+        expected[8..].fill(Some(8));
         assert_eq!(rt; eight_to_four(), expected);
     }
 }

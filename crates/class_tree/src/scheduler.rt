@@ -5,6 +5,8 @@ ghost use Rattle.class_tree.specs.Lawful.{class_tree_laws};
 use crate::class_tree::ClassTree;
 use meaning::Scheduler;
 
+/// Each method is the class tree's own, which is there for callers without the trait.
+///
 /// A slot sees at most 25 × 56 + 24 = 1,424 picks of others before its own.
 impl Scheduler for ClassTree {
     ghost scheduling = { class_tree };

@@ -1,1 +1,1 @@
-pub mod AimdFacts
+pub mod Reporting

@@ -8,8 +8,7 @@ use Rattle.std.proofs.lemmas.Bool.{cond_both, leb-false}
 use Rattle.meaning.specs.declared.report.Mode.{Mode}
 use Rattle.meaning.specs.declared.report.Mode.TheVariants.{Clear, Loss, Mark, Silence}
 use Rattle.meaning.specs.declared.report.Report.{Report}
-use Rattle.meaning.proofs.Hearing.{told_both}
-use Rattle.controllers.specs.Aimd.{starting_window, fresh, sampled, slow_start, avoidance, cut, silenced, step, told}
+use Rattle.controllers.specs.Aimd.{starting_window, fresh, slow_start, avoidance, cut, silenced, step}
 use Rattle.controllers.specs.Packets.{PacketRange}
 use Rattle.controllers.specs.declared.aimd.state.AimdState.{AimdState}
 
@@ -45,13 +44,10 @@ module _ (s : AimdState) (h : InRange s) where
       (λ _. (h.0, (omega (arith, h), omega (arith, h)), h.2, omega (arith, h)))
       (λ e. (h.0, h.1, h.2, omega (arith, h, leb-false s.window (s.count + n) e)))
 
-  step_in_range : (r : Report) (m : Mode) → InRange (step s r m)
+  pub step_in_range : (r : Report) (m : Mode) → InRange (step s r m)
   step_in_range r Clear =
       cond_both (nat_lt s.window s.threshold) _ _ InRange
       (λ _. slow_start_in_range r.received) (λ _. avoidance_in_range r.received)
   step_in_range r Loss = cut_in_range r.flight
   step_in_range r Mark = cut_in_range r.flight
   step_in_range r Silence = silenced_in_range r.flight
-
-pub told_in_range : (s : AimdState) → InRange s → (r : Report) → InRange (told s r)
-told_in_range s h r = told_both sampled step s r InRange (step_in_range (sampled s r) h r) h

@@ -1,10 +1,9 @@
 pub mod Packets
+pub mod Rule
+pub mod Controlled
 pub mod Aimd
 pub mod AimdRange
-pub mod AimdControl
-pub mod AimdFacts
+pub mod AimdRule
 pub mod Rate
 pub mod RateRange
-pub mod RateControl
-pub mod AimdLaws
-pub mod RateLaws
+pub mod RateRule

@@ -5,8 +5,10 @@
 --   checked p              a packet size, or its refusal
 --   made fresh p           what making a controller answers: the numbers of a new one, or the refusal
 --   numbers_of numbers o   the numbers of what was made
-use Rattle.std.specs.Prelude.{ℕ, ◌≤◌, Bool, cond, ◌&&◌, None, Ok, Err, Result, nat_le}
+use Rattle.std.specs.Prelude.{ℕ, ◌≤◌, Bool, cond, ◌&&◌, Ok, Err, Result, nat_le}
+use Rattle.meaning.specs.declared.refusal.Reason.TheVariants.{CannotBeMade}
 use Rattle.meaning.specs.declared.refusal.Refusal.{Refusal}
+use Rattle.meaning.specs.Refusals.{about_nothing}
 
 abbrev pub is_packet : ℕ → Bool
 is_packet p = nat_le 64 p && nat_le p 9000
@@ -15,7 +17,7 @@ abbrev pub PacketRange : ℕ → Type 0
 PacketRange p = (64 ≤ p) × (p ≤ 9000)
 
 abbrev pub packet_refused : Refusal
-packet_refused = record { number = 19; slot = None; macroflow = None }
+packet_refused = about_nothing CannotBeMade
 
 abbrev pub checked : ℕ → Result ℕ Refusal
 checked p = cond (is_packet p) (Ok p) (Err packet_refused)

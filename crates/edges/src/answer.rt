@@ -1,27 +1,19 @@
 //! What a call answered, as it is printed for a person.
+use farm::{FateWord, OrHyphen};
+use grant_calls::Polled;
+use manager::Told;
 use meaning::Refusal;
 use std::fmt;
-use tables::{Fate, Row, Stream};
+use tables::{Row, Stream};
 
-/// The answer of a call.
-#[derive(Clone, Copy)]
+/// The answer of a call, refused ones included: each case prints one value, and a `Result` would
+/// need a second type to print it.
+#[derive(Clone, Copy, PartialEq, Eq)]
 pub enum Answer {
     /// A controller or a manager was made.
     Made,
-    /// The call was accepted, and tells nothing more.
-    Accepted,
-    /// A poll found that no stream waits.
-    NoneWaits,
-    /// A poll found that one packet more would not fit.
-    NoFit,
-    /// A poll issued the grant with this number.
-    Granted(usize),
-    /// A ticket was given out for the grant with this number.
-    TakenUp(usize),
-    /// The grant with this number expired.
-    Expired(usize),
-    /// No grant is due.
-    NothingDue,
+    /// The call was accepted, and tells this.
+    Told(Told),
     /// The slot that has been quiet for longest, if one is open.
     Quietest(Option<usize>),
     /// The record of a slot.
@@ -35,31 +27,39 @@ pub enum Answer {
 impl Answer {
     /// The answer of a call that tells nothing but that it was accepted.
     pub fn done(res: Result<(), Refusal>) -> Answer {
-        match res {
-            Ok(()) => Answer::Accepted,
-            Err(refusal) => Answer::Refused(refusal),
-        }
+        Answer::from(res.map(|()| Told::Done))
+    }
+
+    /// The answer to the making of something, which is let go.
+    pub fn made<T: Drop>(res: Result<T, Refusal>) -> Answer {
+        res.map_or_else(Answer::Refused, |_| Answer::Made)
     }
 }
 
-/// A number, or a hyphen where there is none.
-#[derive(Clone, Copy)]
-struct Maybe(Option<usize>);
+impl From<manager::Answer> for Answer {
+    fn from(answer: manager::Answer) -> Answer {
+        answer.map_or_else(Answer::Refused, Answer::Told)
+    }
+}
 
-impl fmt::Display for Maybe {
-    fn fmt<W: fmt::Write>(&self, f: &mut fmt::Formatter<W>) -> fmt::Result {
-        match self.0 {
-            Some(number) => write!(f, "{number}"),
-            None => write!(f, "-"),
-        }
+/// Writes what a call tells that was accepted.
+fn write_told<W: fmt::Write>(f: &mut fmt::Formatter<W>, told: Told) -> fmt::Result {
+    match told {
+        Told::Done => write!(f, "accepted"),
+        Told::Polled(Polled::NoneWaits) => write!(f, "none waits"),
+        Told::Polled(Polled::NoFit) => write!(f, "no fit"),
+        Told::Polled(Polled::Granted(grant)) => write!(f, "granted {grant}"),
+        Told::TakenUp(grant) => write!(f, "taken up {grant}"),
+        Told::Expired(Some(grant)) => write!(f, "expired {grant}"),
+        Told::Expired(None) => write!(f, "nothing is due"),
     }
 }
 
 /// Writes a refusal with what it names.
 fn write_refusal<W: fmt::Write>(f: &mut fmt::Formatter<W>, refusal: Refusal) -> fmt::Result {
-    let number = refusal.number;
-    let slot = Maybe(refusal.slot);
-    let macroflow = Maybe(refusal.macroflow);
+    let number = refusal.number();
+    let slot = OrHyphen(refusal.slot);
+    let macroflow = OrHyphen(refusal.macroflow);
     write!(f, "refused {number} (slot {slot}, macroflow {macroflow})")
 }
 
@@ -94,16 +94,6 @@ fn write_record<W: fmt::Write>(f: &mut fmt::Formatter<W>, stream: Stream) -> fmt
     )
 }
 
-/// What became of a grant, in a word.
-fn fate_word(fate: Fate) -> &'static str {
-    match fate {
-        Fate::Open => "open",
-        Fate::Charged => "charged",
-        Fate::Returned => "returned",
-        Fate::Expired => "expired",
-    }
-}
-
 /// Writes a row of the ledger.
 fn write_row<W: fmt::Write>(f: &mut fmt::Formatter<W>, row: Row) -> fmt::Result {
     let Row {
@@ -117,7 +107,7 @@ fn write_row<W: fmt::Write>(f: &mut fmt::Formatter<W>, row: Row) -> fmt::Result 
         ended,
         taken,
     } = row;
-    let fate = fate_word(fate);
+    let fate = FateWord(fate);
     let taken = if taken { "taken up" } else { "not taken up" };
     write!(f, "slot {slot}, macroflow {macroflow}, granted {granted}, ")?;
     write!(f, "issued {issued}, deadline {deadline}, {taken}; ")?;
@@ -128,13 +118,7 @@ impl fmt::Display for Answer {
     fn fmt<W: fmt::Write>(&self, f: &mut fmt::Formatter<W>) -> fmt::Result {
         match *self {
             Answer::Made => write!(f, "made"),
-            Answer::Accepted => write!(f, "accepted"),
-            Answer::NoneWaits => write!(f, "none waits"),
-            Answer::NoFit => write!(f, "no fit"),
-            Answer::Granted(grant) => write!(f, "granted {grant}"),
-            Answer::TakenUp(grant) => write!(f, "taken up {grant}"),
-            Answer::Expired(grant) => write!(f, "expired {grant}"),
-            Answer::NothingDue => write!(f, "nothing is due"),
+            Answer::Told(told) => write_told(f, told),
             Answer::Quietest(Some(slot)) => write!(f, "slot {slot}"),
             Answer::Quietest(None) => write!(f, "absent"),
             Answer::Record(stream) => write_record(f, stream),

@@ -1,7 +1,7 @@
 //! A manager on the bench, with the tables that its host keeps.
 use crate::answer::Answer;
 use grant_calls::Polled;
-use manager::{Manager, Ticket};
+use manager::{Manager, Ticket, Told};
 use meaning::{Controller, Refusal, Scheduler};
 use stream_calls::Feedback;
 use tables::Row;
@@ -39,8 +39,8 @@ fn first_of<T>(list: &mut [T], count: usize) -> &mut [T] {
 
 /// A manager of two macroflows and 16 rows.
 ///
-/// The host has one controller, one scheduler and one row more than the manager knows of, so that it
-/// can lend too many of them.
+/// The host has one controller, one scheduler and one row more than the manager knows of, so that
+/// it can lend too many of them.
 #[derive(Drop)]
 pub struct Bench<C: Controller, S: Scheduler> {
     manager: Manager,
@@ -86,11 +86,10 @@ impl<C: Controller, S: Scheduler> Bench<C, S> {
 
     /// Adds several requests of a stream, and answers what the last one was answered.
     pub fn request_times(&mut self, slot: usize, times: usize) -> Answer {
-        let mut answer = Answer::Accepted;
-        for _ in 0..times {
-            answer = self.request(slot);
-        }
-        answer
+        (0..times)
+            .map(|_| self.request(slot))
+            .last()
+            .unwrap_or(Answer::Told(Told::Done))
     }
 
     /// Takes a stream's report.
@@ -113,10 +112,9 @@ impl<C: Controller, S: Scheduler> Bench<C, S> {
 
     /// The record of a slot.
     pub fn standing(&self, slot: usize) -> Answer {
-        match self.manager.standing(slot) {
-            Ok(stream) => Answer::Record(stream),
-            Err(refusal) => Answer::Refused(refusal),
-        }
+        self.manager
+            .standing(slot)
+            .map_or_else(Answer::Refused, Answer::Record)
     }
 
     /// The open slot that has been quiet for longest.
@@ -126,10 +124,7 @@ impl<C: Controller, S: Scheduler> Bench<C, S> {
 
     /// A row of the ledger; a blank one where there is none.
     pub fn row(&self, grant: usize) -> Answer {
-        match self.rows.get(grant) {
-            Some(row) => Answer::Entry(*row),
-            None => Answer::Entry(Row::blank()),
-        }
+        Answer::Entry(self.rows.get(grant).copied().unwrap_or_default())
     }
 
     /// Asks a macroflow for its next grant.
@@ -137,24 +132,18 @@ impl<C: Controller, S: Scheduler> Bench<C, S> {
         let controllers = first_of(&mut self.controllers, self.lent.controllers);
         let schedulers = first_of(&mut self.schedulers, self.lent.schedulers);
         let rows = first_of(&mut self.rows, self.lent.rows);
-        match self
+        let polled = self
             .manager
-            .poll(controllers, schedulers, rows, self.time, macroflow)
-        {
-            Ok(Polled::NoneWaits) => Answer::NoneWaits,
-            Ok(Polled::NoFit) => Answer::NoFit,
-            Ok(Polled::Granted(grant)) => Answer::Granted(grant),
-            Err(refusal) => Answer::Refused(refusal),
-        }
+            .poll(controllers, schedulers, rows, self.time, macroflow);
+        Answer::from(polled.map(Told::Polled))
     }
 
     /// Asks a macroflow several times, and answers what the last poll was answered.
     pub fn poll_times(&mut self, macroflow: usize, times: usize) -> Answer {
-        let mut answer = Answer::NoneWaits;
-        for _ in 0..times {
-            answer = self.poll(macroflow);
-        }
-        answer
+        (0..times)
+            .map(|_| self.poll(macroflow))
+            .last()
+            .unwrap_or(Answer::Told(Told::Polled(Polled::NoneWaits)))
     }
 
     /// Takes a grant up.
@@ -169,7 +158,7 @@ impl<C: Controller, S: Scheduler> Bench<C, S> {
             Ok(ticket) => {
                 let grant = ticket.number();
                 let _ = self.settle_ticket(ticket, 0);
-                Answer::TakenUp(grant)
+                Answer::Told(Told::TakenUp(grant))
             }
             Err(refusal) => Answer::Refused(refusal),
         }
@@ -190,32 +179,21 @@ impl<C: Controller, S: Scheduler> Bench<C, S> {
     /// Ends the grant that is due.
     pub fn expire(&mut self) -> Answer {
         let rows = first_of(&mut self.rows, self.lent.rows);
-        match self.manager.expire(rows, self.time) {
-            Ok(Some(grant)) => Answer::Expired(grant),
-            Ok(None) => Answer::NothingDue,
-            Err(refusal) => Answer::Refused(refusal),
-        }
+        Answer::from(self.manager.expire(rows, self.time).map(Told::Expired))
     }
 
     /// The host raises a slot in the scheduler of macroflow 0, behind the manager's back.
     pub fn raise_behind(&mut self, slot: usize, weight: u64) {
-        let mut scheduler = self.schedulers[0];
-        scheduler.raise(slot, weight);
-        self.schedulers[0] = scheduler;
+        self.schedulers[0].raise(slot, weight);
     }
 
     /// The host lowers a slot in the scheduler of macroflow 0, behind the manager's back.
     pub fn lower_behind(&mut self, slot: usize) {
-        let mut scheduler = self.schedulers[0];
-        scheduler.lower(slot);
-        self.schedulers[0] = scheduler;
+        self.schedulers[0].lower(slot);
     }
 
     /// The host lets the schedulers of macroflows 0 and 1 change places.
     pub fn exchange_schedulers(&mut self) {
-        let first = self.schedulers[0];
-        let second = self.schedulers[1];
-        self.schedulers[0] = second;
-        self.schedulers[1] = first;
+        self.schedulers.swap(0, 1);
     }
 }

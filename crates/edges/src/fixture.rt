@@ -3,9 +3,8 @@ use crate::answer::Answer;
 use crate::bench::Bench;
 use class_tree::ClassTree;
 use controllers::{ByteAimd, RateController};
-use meaning::Refusal;
+use meaning::{Mode, Refusal};
 use schedulers::RoundRobin;
-use std::alloc::AllocError;
 use std::io;
 use stream_calls::Feedback;
 
@@ -23,9 +22,7 @@ pub type RateBench = Bench<RateController, ClassTree>;
 pub enum Halt {
     /// Nothing more can be printed.
     Output(io::Error),
-    /// There is no memory.
-    Memory,
-    /// A part of the bench was not made.
+    /// A part of the bench was not made, or a grant that a case needs was not taken up.
     NotMade(Refusal),
 }
 
@@ -35,19 +32,14 @@ impl From<io::Error> for Halt {
     }
 }
 
-impl From<AllocError> for Halt {
-    fn from(_error: AllocError) -> Halt {
-        Halt::Memory
-    }
-}
-
 impl From<Refusal> for Halt {
     fn from(refusal: Refusal) -> Halt {
         Halt::NotMade(refusal)
     }
 }
 
-/// A new manager with byte AIMD.
+/// A new manager with byte AIMD. This function and `rate_bench` each name a controller and a
+/// scheduler; what they share is `Bench::new`.
 pub fn aimd_bench() -> Result<AimdBench, Halt> {
     let controller = ByteAimd::new(PACKET)?;
     Ok(Bench::new(controller, RoundRobin::<32>::new())?)
@@ -59,7 +51,7 @@ pub fn rate_bench() -> Result<RateBench, Halt> {
     Ok(Bench::new(controller, ClassTree::new())?)
 }
 
-/// A report without a sample.
+/// A report without a sample. Its mode is a number, since some cases try one that is no mode.
 pub fn unsampled(mode: u64, received: u64, lost: u64) -> Feedback {
     Feedback {
         received,
@@ -74,7 +66,7 @@ pub fn sampled(received: u64, sample: u64) -> Feedback {
     Feedback {
         received,
         lost: 0,
-        mode: 0,
+        mode: Mode::Clear as u64,
         sample: Some(sample),
     }
 }

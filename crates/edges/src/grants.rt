@@ -1,6 +1,7 @@
 //! How a grant ends, and which answers count as accepted.
 use crate::answer::Answer;
 use crate::fixture::{AimdBench, Halt, aimd_bench, heading, show};
+use manager::Told;
 
 /// A manager that issued grant 0 to slot 0 at 10; it is 20.
 fn granted_bench() -> Result<AimdBench, Halt> {
@@ -23,22 +24,14 @@ fn returned(rt: &impl Print) -> Result<(), Halt> {
     Ok(())
 }
 
-/// Takes grant 0 up, tries to take it up again, and settles the ticket with too much.
-fn overspend(bench: &mut AimdBench) -> [Answer; 3] {
-    match bench.take_up(0) {
-        Ok(ticket) => {
-            let taken = Answer::TakenUp(ticket.number());
-            let again = bench.try_take_up(0);
-            [taken, again, bench.settle_ticket(ticket, 1_001)]
-        }
-        Err(refusal) => [Answer::Refused(refusal); 3],
-    }
-}
-
-/// A settlement by ticket that is refused: the ticket is spent, and the grant is settled by its number.
+/// A settlement by ticket that is refused: the ticket is spent, and the grant is settled by its
+/// number.
 fn refused_ticket(rt: &impl Print) -> Result<(), Halt> {
     let mut bench = granted_bench()?;
-    let [taken, again, settled] = overspend(&mut bench);
+    let ticket = bench.take_up(0)?;
+    let taken = Answer::Told(Told::TakenUp(ticket.number()));
+    let again = bench.try_take_up(0);
+    let settled = bench.settle_ticket(ticket, 1_001);
     show(rt, "take up grant 0", taken)?;
     show(rt, "take up grant 0 again", again)?;
     show(rt, "settle its ticket with 1001", settled)?;
@@ -57,23 +50,14 @@ fn refused_ticket(rt: &impl Print) -> Result<(), Halt> {
     Ok(())
 }
 
-/// Takes grant 0 up, lets it expire, and settles the ticket too late.
-fn come_late(bench: &mut AimdBench) -> [Answer; 3] {
-    match bench.take_up(0) {
-        Ok(ticket) => {
-            let taken = Answer::TakenUp(ticket.number());
-            bench.time = 1_010;
-            let expired = bench.expire();
-            [taken, expired, bench.settle_ticket(ticket, 1_000)]
-        }
-        Err(refusal) => [Answer::Refused(refusal); 3],
-    }
-}
-
 /// A ticket whose grant has expired is spent too, and nothing is charged.
 fn late_ticket(rt: &impl Print) -> Result<(), Halt> {
     let mut bench = granted_bench()?;
-    let [taken, expired, settled] = come_late(&mut bench);
+    let ticket = bench.take_up(0)?;
+    let taken = Answer::Told(Told::TakenUp(ticket.number()));
+    bench.time = 1_010;
+    let expired = bench.expire();
+    let settled = bench.settle_ticket(ticket, 1_000);
     show(rt, "take up grant 0", taken)?;
     show(rt, "expire at 1010", expired)?;
     show(rt, "settle its ticket with 1000", settled)?;

@@ -2,10 +2,10 @@
 use crate::bench::Lent;
 use crate::fixture::{AimdBench, Halt, aimd_bench, heading, show, show_in, unsampled};
 use crate::refusals::busy_bench;
-use meaning::Controller;
 use tables::Fate;
 
-/// The calls that are lent the controllers.
+/// The calls that are lent the controllers. This function and the next two each lend another list
+/// in another length, and make other calls.
 fn lend_controllers(
     rt: &impl Print,
     bench: &mut AimdBench,

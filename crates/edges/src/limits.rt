@@ -1,12 +1,13 @@
 //! Limits that pass, and one more that does not.
 use crate::answer::Answer;
 use crate::fixture::{Halt, aimd_bench, heading, sampled, show, unsampled};
+use manager::Told;
 
 /// The latest time.
 const LATEST: u64 = 1_000_000_000_000_000;
 
-/// Four grants are issued and the first ones are settled with these bytes; then a packet more is asked
-/// for.
+/// Four grants are issued and the first ones are settled with these bytes; then a packet more is
+/// asked for.
 fn poll_after(sent: &[u64]) -> Result<Answer, Halt> {
     let mut bench = aimd_bench()?;
     bench.open(0, 0, 1, 1_000);
@@ -163,7 +164,8 @@ fn places(rt: &impl Print) -> Result<(), Halt> {
 fn rows(rt: &impl Print) -> Result<(), Halt> {
     let mut bench = aimd_bench()?;
     bench.open(0, 0, 1, 1_000);
-    let mut last = Answer::NoneWaits;
+    let mut last = Answer::Told(Told::Done);
+    // the grants' numbers are what is tried: each is settled by its own
     for grant in 0..16 {
         bench.request(0);
         last = bench.poll(0);
@@ -190,7 +192,8 @@ fn deadline(rt: &impl Print) -> Result<(), Halt> {
     Ok(())
 }
 
-/// Which of several grants expires first: slot 2 has grants 0 and 3, slot 3 grant 1, slot 5 grant 2.
+/// Which of several grants expires first: slot 2 has grants 0 and 3, slot 3 grant 1, slot 5 grant
+/// 2.
 fn order(rt: &impl Print) -> Result<(), Halt> {
     let mut bench = aimd_bench()?;
     bench.time = 100;

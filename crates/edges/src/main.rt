@@ -1,5 +1,6 @@
-//! The edges of a congestion manager: limits that pass and one more that does not, every refusal, and
-//! tables that the host rewrote. Each case is tried on a real manager and printed with its answer.
+//! The edges of a congestion manager: limits that pass and one more that does not, every refusal,
+//! and tables that the host rewrote. Each case is tried on a real manager and printed with its
+//! answer.
 #![tactic(auto)]
 
 mod answer;

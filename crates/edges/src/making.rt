@@ -7,7 +7,8 @@ use meaning::Scheduler;
 use schedulers::RoundRobin;
 use tables::{Fate, Row};
 
-/// One row more than a ledger may have.
+/// One row more than a ledger may have. The blank row is written out, since a static holds
+/// constants and `Row::blank` is a call.
 static ROWS: [Row; 65_537] = [Row {
     slot: 0,
     macroflow: 0,
@@ -20,45 +21,19 @@ static ROWS: [Row; 65_537] = [Row {
     taken: false,
 }; 65_537];
 
-/// Makes byte AIMD with packets of this size.
-fn make_aimd(packet: u64) -> Answer {
-    match ByteAimd::new(packet) {
-        Ok(_) => Answer::Made,
-        Err(refusal) => Answer::Refused(refusal),
-    }
-}
+/// Packets around the smallest and the largest size.
+const PACKETS: [u64; 4] = [63, 64, 9_000, 9_001];
 
-/// Makes a rate controller with packets of this size.
-fn make_rate(packet: u64) -> Answer {
-    match RateController::new(packet) {
-        Ok(_) => Answer::Made,
-        Err(refusal) => Answer::Refused(refusal),
+/// The smallest and the largest packet of one kind of controller.
+fn packets<F>(rt: &impl Print, kind: &str, make: F) -> Result<(), Halt>
+where
+    F: Fn(u64) -> Answer,
+    requires { F.IsAlwaysCallable make }
+{
+    for packet in PACKETS {
+        let made = make(packet);
+        println!(rt; "  {kind} with packets of {packet}: {made}")?;
     }
-}
-
-/// Makes a manager.
-fn make_manager(
-    macroflows: usize,
-    controllers: &[ByteAimd],
-    schedulers: &[RoundRobin<32>],
-    rows: &[Row],
-) -> Answer {
-    match Manager::new(macroflows, controllers, schedulers, rows) {
-        Ok(_) => Answer::Made,
-        Err(refusal) => Answer::Refused(refusal),
-    }
-}
-
-/// The smallest and the largest packet.
-fn packets(rt: &impl Print) -> Result<(), Halt> {
-    show(rt, "byte AIMD with packets of 63", make_aimd(63))?;
-    show(rt, "byte AIMD with packets of 64", make_aimd(64))?;
-    show(rt, "byte AIMD with packets of 9000", make_aimd(9_000))?;
-    show(rt, "byte AIMD with packets of 9001", make_aimd(9_001))?;
-    show(rt, "rate controller with packets of 63", make_rate(63))?;
-    show(rt, "rate controller with packets of 64", make_rate(64))?;
-    show(rt, "rate controller with packets of 9000", make_rate(9_000))?;
-    show(rt, "rate controller with packets of 9001", make_rate(9_001))?;
     Ok(())
 }
 
@@ -66,21 +41,21 @@ fn packets(rt: &impl Print) -> Result<(), Halt> {
 fn counts(rt: &impl Print) -> Result<(), Halt> {
     let controllers = [ByteAimd::new(PACKET)?; 9];
     let schedulers = [RoundRobin::<32>::new(); 9];
-    let made = make_manager(0, &controllers[0..0], &schedulers[0..0], &[]);
+    let made = Answer::made(Manager::new(0, &controllers[0..0], &schedulers[0..0], &[]));
     show(rt, "manager of 0 macroflows", made)?;
-    let made = make_manager(1, &controllers[0..1], &schedulers[0..1], &[]);
+    let made = Answer::made(Manager::new(1, &controllers[0..1], &schedulers[0..1], &[]));
     show(rt, "manager of 1 macroflow and 0 rows", made)?;
-    let made = make_manager(8, &controllers[0..8], &schedulers[0..8], &[]);
+    let made = Answer::made(Manager::new(8, &controllers[0..8], &schedulers[0..8], &[]));
     show(rt, "manager of 8 macroflows", made)?;
-    let made = make_manager(9, &controllers, &schedulers, &[]);
+    let made = Answer::made(Manager::new(9, &controllers, &schedulers, &[]));
     show(rt, "manager of 9 macroflows", made)?;
-    let made = make_manager(2, &controllers[0..1], &schedulers[0..2], &[]);
+    let made = Answer::made(Manager::new(2, &controllers[0..1], &schedulers[0..2], &[]));
     show(rt, "manager of 2 macroflows with 1 controller", made)?;
-    let made = make_manager(2, &controllers[0..3], &schedulers[0..2], &[]);
+    let made = Answer::made(Manager::new(2, &controllers[0..3], &schedulers[0..2], &[]));
     show(rt, "manager of 2 macroflows with 3 controllers", made)?;
-    let made = make_manager(2, &controllers[0..2], &schedulers[0..1], &[]);
+    let made = Answer::made(Manager::new(2, &controllers[0..2], &schedulers[0..1], &[]));
     show(rt, "manager of 2 macroflows with 1 scheduler", made)?;
-    let made = make_manager(2, &controllers[0..2], &schedulers[0..3], &[]);
+    let made = Answer::made(Manager::new(2, &controllers[0..2], &schedulers[0..3], &[]));
     show(rt, "manager of 2 macroflows with 3 schedulers", made)?;
     Ok(())
 }
@@ -90,10 +65,10 @@ fn waiting(rt: &impl Print) -> Result<(), Halt> {
     let controllers = [ByteAimd::new(PACKET)?; 2];
     let mut schedulers = [RoundRobin::<32>::new(); 2];
     schedulers[1].raise(31, 8);
-    let made = make_manager(2, &controllers, &schedulers, &[]);
+    let made = Answer::made(Manager::new(2, &controllers, &schedulers, &[]));
     show(rt, "manager with slot 31 waiting in scheduler 1", made)?;
     schedulers[1].lower(31);
-    let made = make_manager(2, &controllers, &schedulers, &[]);
+    let made = Answer::made(Manager::new(2, &controllers, &schedulers, &[]));
     show(rt, "manager with no slot waiting", made)?;
     Ok(())
 }
@@ -102,9 +77,9 @@ fn waiting(rt: &impl Print) -> Result<(), Halt> {
 fn rows(rt: &impl Print) -> Result<(), Halt> {
     let controllers = [ByteAimd::new(PACKET)?];
     let schedulers = [RoundRobin::<32>::new()];
-    let made = make_manager(1, &controllers, &schedulers, &ROWS[0..65_536]);
+    let made = Answer::made(Manager::new(1, &controllers, &schedulers, &ROWS[0..65_536]));
     show(rt, "manager with 65536 rows", made)?;
-    let made = make_manager(1, &controllers, &schedulers, &ROWS);
+    let made = Answer::made(Manager::new(1, &controllers, &schedulers, &ROWS));
     show(rt, "manager with 65537 rows", made)?;
     Ok(())
 }
@@ -112,7 +87,16 @@ fn rows(rt: &impl Print) -> Result<(), Halt> {
 /// Tries to make controllers and managers.
 pub fn try_all(rt: &impl Print) -> Result<(), Halt> {
     heading(rt, "Making a controller")?;
-    packets(rt)?;
+    packets(
+        rt,
+        "byte AIMD",
+        |packet| Answer::made(ByteAimd::new(packet)),
+    )?;
+    packets(
+        rt,
+        "rate controller",
+        |packet| Answer::made(RateController::new(packet)),
+    )?;
     heading(rt, "Making a manager")?;
     counts(rt)?;
     waiting(rt)?;

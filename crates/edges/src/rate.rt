@@ -1,6 +1,5 @@
 //! The same limits with the rate controller and the class tree.
 use crate::fixture::{Halt, RateBench, heading, rate_bench, sampled, show};
-use meaning::Controller;
 
 /// Slots 0 and 8, of classes 0 and 1, ask for nine grants each, and 12 of 1,000 bytes are issued.
 fn shared_bench() -> Result<RateBench, Halt> {
@@ -25,9 +24,11 @@ fn shares(rt: &impl Print) -> Result<(), Halt> {
     Ok(())
 }
 
-/// All grants are settled, the last one with these bytes; a report then brings the allowance to 6,556.
+/// All grants are settled, the last one with these bytes; a report then brings the allowance to
+/// 6,556.
 fn slow_bench(last: u64) -> Result<RateBench, Halt> {
     let mut bench = shared_bench()?;
+    // the grants' numbers are what is tried: each is settled by its own
     for grant in 0..11 {
         bench.settle(grant, 1_000);
     }

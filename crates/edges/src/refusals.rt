@@ -1,6 +1,5 @@
 //! What each call refuses, what the refusal names, and that it changes nothing.
 use crate::fixture::{AimdBench, Halt, aimd_bench, heading, sampled, show, unsampled};
-use meaning::Controller;
 
 /// A time before the last call of a busy manager.
 const EARLIER: u64 = 49;
@@ -8,8 +7,9 @@ const EARLIER: u64 = 49;
 /// A time after it.
 const LATER: u64 = 60;
 
-/// A manager whose last call was at 50. Slot 2 is open in macroflow 0 with one request waiting and 500
-/// bytes outstanding; its grant 0 has ended and its grant 1, of 1,000 bytes, is open. Slot 4 is closed.
+/// A manager whose last call was at 50. Slot 2 is open in macroflow 0 with one request waiting and
+/// 500 bytes outstanding; its grant 0 has ended and its grant 1, of 1,000 bytes, is open. Slot 4 is
+/// closed.
 pub fn busy_bench() -> Result<AimdBench, Halt> {
     let mut bench = aimd_bench()?;
     bench.time = 50;
@@ -175,17 +175,15 @@ fn all_refused(rt: &impl Print, bench: &mut AimdBench) -> Result<(), Halt> {
     settlements(rt, bench)
 }
 
-/// After every refused call the record of slot 2 is as it was, and the next call works at the time of
-/// the last one that was accepted.
-fn nothing_changes(rt: &(impl Print + AllocGlobal)) -> Result<(), Halt> {
+/// After every refused call the record of slot 2 is as it was, and the next call works at the time
+/// of the last one that was accepted.
+fn nothing_changes(rt: &impl Print) -> Result<(), Halt> {
     let mut bench = busy_bench()?;
     let before = bench.standing(2);
     show(rt, "slot 2 before", before)?;
     all_refused(rt, &mut bench)?;
     let after = bench.standing(2);
     show(rt, "slot 2 after", after)?;
-    let before = format!(in rt.alloc(); "{before}")?;
-    let after = format!(in rt.alloc(); "{after}")?;
     let same = if before == after { "yes" } else { "no" };
     println!(rt; "  slot 2 is as it was: {same}")?;
     bench.time = 50;
@@ -197,8 +195,8 @@ fn nothing_changes(rt: &(impl Print + AllocGlobal)) -> Result<(), Halt> {
     Ok(())
 }
 
-/// What is named where a grant has ended: the row's slot, and the macroflow of the stream that is open
-/// there now.
+/// What is named where a grant has ended: the row's slot, and the macroflow of the stream that is
+/// open there now.
 fn ended_grants(rt: &impl Print) -> Result<(), Halt> {
     let mut bench = aimd_bench()?;
     bench.open(2, 0, 1, 1_000);
@@ -228,7 +226,7 @@ fn ended_grants(rt: &impl Print) -> Result<(), Halt> {
 }
 
 /// Tries every refusal of the calls.
-pub fn try_all(rt: &(impl Print + AllocGlobal)) -> Result<(), Halt> {
+pub fn try_all(rt: &impl Print) -> Result<(), Halt> {
     heading(rt, "Refused calls")?;
     nothing_changes(rt)?;
     heading(rt, "A grant that has ended")?;

@@ -2,8 +2,9 @@
 --   waits_after      whether a slot waits after some events, by the scheduler and by the history
 --   others_patience  a run in which a slot waits and is not picked has no more picks of others than the slot's patience
 --   fair             fairness, of the answers of a run
-use Rattle.std.proofs.Common.{◌≡◌, ℕ, zero, suc, ◌+◌, ◌<◌, ◌≤◌, Bool, true, false, not, ◌&&◌, ◌||◌, eqb, ◌⊎◌, List, [], ◌∷◌, length, take, drop, Some, None, Option, sym, refl, ap, ◌∙◌, subst, ⊎_elim, add-zero, arith, length-take}
-use Rattle.std.proofs.lemmas.Bool.{cases_eq, cases_lt, eq-eqb, ne_eqb, both_ways, and_from, and_left, and_right, cond-true}
+use Rattle.std.proofs.Common.{◌≡◌, ℕ, zero, suc, ◌+◌, ◌<◌, ◌≤◌, true, false, not, ◌&&◌, ◌||◌, eqb, ◌⊎◌, List, [], ◌∷◌, length, take, drop, Some, None, Option, sym, refl, ap, ◌∙◌, subst, ⊎_elim, add-zero, arith, length-take}
+use Rattle.std.proofs.Math.Bool.{or-false}
+use Rattle.std.proofs.lemmas.Bool.{cases_eq, cases_lt, eq-eqb, both_ways, cond-true}
 use Rattle.std.proofs.lemmas.Bool.Decides.{nat_tests}
 use Rattle.meaning.specs.Scheduling.{Scheduling, SchedulingLaws}
 use Rattle.fairness.specs.declared.event.Event.{Event}
@@ -12,55 +13,26 @@ use Rattle.fairness.specs.Events.{state_after, answers}
 use Rattle.fairness.specs.Fair.{in_range, waiting, stretch, times_picked, answered, Fair}
 use Rattle.fairness.proofs.Stretches.{answers_stretch, state_stretch}
 
-or_false : (a b : Bool) → b ≡ false → (a || b) ≡ a
-or_false true b e = refl
-or_false false b e = e
-
-or_true : (a b : Bool) → b ≡ true → (a || b) ≡ true
-or_true true b e = refl
-or_true false b e = e
-
-and_true : (a b : Bool) → b ≡ true → (a && b) ≡ a
-and_true true b e = e
-and_true false b e = refl
-
-and_false : (a b : Bool) → b ≡ false → (a && b) ≡ false
-and_false true b e = e
-and_false false b e = refl
-
 module _ {S : Type 0} (k : Scheduling S) (laws : SchedulingLaws 32 k) (i : ℕ) where
   -- a raise that is not in range changes nothing
   out_of_range : (s : S) (slot weight : ℕ) → (32 ≤ slot) ⊎ ((weight ≡ 0) ⊎ (8 < weight)) → k.raised s slot weight ≡ s
-  out_of_range s slot weight =
-      ⊎_elim
-      (λ (l : 32 ≤ slot). laws.raise_outside s slot weight l)
-      (⊎_elim
-      (λ (e : weight ≡ 0). subst (λ w. k.raised s slot w ≡ s) (sym e) (laws.raise_weightless s slot))
-      (λ (l : 8 < weight). laws.raise_heavy s slot weight l))
+  out_of_range s slot weight why = grind (arith, laws.raise_outside s slot weight, laws.raise_weightless s slot, laws.raise_heavy s slot weight)
 
   range_cases : (slot weight : ℕ) → ((slot < 32) × (1 ≤ weight) × (weight ≤ 8) × (in_range slot weight ≡ true)) ⊎ (((32 ≤ slot) ⊎ ((weight ≡ 0) ⊎ (8 < weight))) × (in_range slot weight ≡ false))
   range_cases slot weight = grind (arith, nat_tests, cases_lt slot 32, cases_lt 0 weight, cases_lt 8 weight)
 
   waits_raised : (s : S) (slot weight : ℕ) → k.waits (k.raised s slot weight) i ≡ (k.waits s i || (eqb i slot && in_range slot weight))
   waits_raised s slot weight =
-      ⊎_elim
-      (λ (e : i ≡ slot).
-      ⊎_elim
-      (λ (x : (slot < 32) × (1 ≤ weight) × (weight ≤ 8) × (in_range slot weight ≡ true)).
-      subst (λ j. k.waits (k.raised s slot weight) j ≡ true) (sym e) (laws.raise_adds s slot weight x.0 x.1 x.2)
-      ∙ sym (or_true (k.waits s i) _ (and_from (eqb i slot) (in_range slot weight) (eq-eqb i slot e) x.3)))
-      (λ (x : ((32 ≤ slot) ⊎ ((weight ≡ 0) ⊎ (8 < weight))) × (in_range slot weight ≡ false)).
-      ap (λ (r : S). k.waits r i) (out_of_range s slot weight x.0) ∙ sym (or_false (k.waits s i) _ (and_right (eqb i slot) (in_range slot weight) x.1)))
-      (range_cases slot weight))
-      (λ (ne : i ≡ slot → ⊥). laws.raise_others s slot weight i ne ∙ sym (or_false (k.waits s i) _ (and_left (eqb i slot) (in_range slot weight) (ne_eqb i slot ne))))
-      (cases_eq i slot)
+      let adds = laws.raise_adds s slot weight in
+      let others = laws.raise_others s slot weight i in
+      let still = λ (x : (32 ≤ slot) ⊎ ((weight ≡ 0) ⊎ (8 < weight))). ap (λ (r : S). k.waits r i) (out_of_range s slot weight x) in
+      grind (arith, nat_tests, or-false, adds, others, still, cases_eq i slot, range_cases slot weight)
 
   waits_lowered : (s : S) (slot : ℕ) → k.waits (k.lowered s slot) i ≡ (k.waits s i && not (eqb i slot))
   waits_lowered s slot =
-      ⊎_elim
-      (λ (e : i ≡ slot). subst (λ x. k.waits (k.lowered s x) i ≡ false) e (laws.lower_removes s i) ∙ sym (and_false (k.waits s i) _ (ap not (eq-eqb i slot e))))
-      (λ (ne : i ≡ slot → ⊥). laws.lower_others s slot i ne ∙ sym (and_true (k.waits s i) _ (ap not (ne_eqb i slot ne))))
-      (cases_eq i slot)
+      let removes = laws.lower_removes s slot in
+      let others = laws.lower_others s slot i in
+      grind (arith, nat_tests, removes, others, cases_eq i slot)
 
   waits_after : (s : S) (events : List Event) → k.waits (state_after k s events) i ≡ waiting i (k.waits s i) events
   waits_after s [] = refl
@@ -76,18 +48,10 @@ module _ {S : Type 0} (k : Scheduling S) (laws : SchedulingLaws 32 k) (i : ℕ) 
 
   -- a slot that waits, and waits on, has no more patience after raises and lowers of any slot
   raised_patience : (s : S) (slot weight : ℕ) → k.waits s i ≡ true → k.patience (k.raised s slot weight) i ≤ k.patience s i
-  raised_patience s slot weight b =
-      ⊎_elim
-      (λ (e : i ≡ slot).
-      let still : k.raised s slot weight ≡ s = laws.raise_waiting s slot weight (subst (λ x. k.waits s x ≡ true) e b) in
-      let same : k.patience (k.raised s slot weight) i ≡ k.patience s i = ap (λ (x : S). k.patience x i) still in
-      omega arith)
-      (λ (ne : i ≡ slot → ⊥). laws.raise_patience s slot weight i b ne)
-      (cases_eq i slot)
+  raised_patience s slot weight b = grind (arith, laws.raise_waiting s slot weight, laws.raise_patience s slot weight i, cases_eq i slot)
 
   lowered_patience : (s : S) (slot : ℕ) → k.waits s i ≡ true → k.waits (k.lowered s slot) i ≡ true → k.patience (k.lowered s slot) i ≤ k.patience s i
-  lowered_patience s slot b on =
-      laws.lower_patience s slot i b (λ e. both_ways (k.waits (k.lowered s slot) i) (subst (λ x. k.waits (k.lowered s x) i ≡ false) e (laws.lower_removes s i)) on)
+  lowered_patience s slot b on = grind (arith, laws.lower_removes s slot, laws.lower_patience s slot i b, cases_eq i slot)
 
   -- the slot waits at each event of the run, as it comes
   abbrev WaitsThrough : S → List Event → Type 0

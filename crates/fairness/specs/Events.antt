@@ -4,9 +4,10 @@
 --   state_after  the state after the events
 --   answers      the answers of the picks among them, in their order
 --   Ended        how a run ends: with these answers and this state, or for want of memory in the state that it began with
-use Rattle.std.specs.Prelude.{◌≡◌, ℕ, List, [], ◌∷◌, ◌++◌, Ok, Err, vec_items, Option, Result}
+use Rattle.std.specs.Prelude.{◌≡◌, ℕ, List, [], ◌∷◌, Ok, Err, vec_items, Option, Result}
 use Rattle.std.specs.declared.alloc.AllocError.{AllocError}
 use Rattle.std.specs.Global.{Vec}
+use Rattle.folds.specs.Folds.{all_done, all_said}
 use Rattle.meaning.specs.Scheduling.{Scheduling}
 use Rattle.fairness.specs.declared.event.Event.{Event}
 use Rattle.fairness.specs.declared.event.Event.TheVariants.{Raise, Lower, Pick}
@@ -23,12 +24,10 @@ module _ {S : Type 0} (k : Scheduling S) where
   answer_to s Pick = k.chosen s ∷ []
 
   abbrev pub state_after : S → List Event → S
-  state_after s [] = s
-  state_after s (event ∷ events) = state_after (stepped s event) events
+  state_after s events = all_done stepped s events
 
   abbrev pub answers : S → List Event → List (Option ℕ)
-  answers s [] = []
-  answers s (event ∷ events) = answer_to s event ++ answers (stepped s event) events
+  answers s events = all_said stepped answer_to s events
 
   abbrev pub Ended : S → List Event → Result (Vec (Option ℕ)) AllocError → S → Type 0
   Ended s events (Ok v) end = (vec_items v ≡ answers s events) × (end ≡ state_after s events)

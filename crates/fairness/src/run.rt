@@ -26,12 +26,14 @@ pub fn carry_out<S: Scheduler>(
 }
 
 /// Carries out the events, and puts the answers into memory that was reserved for them.
+#[tactic(auto, using(folds::proofs::Folding::leads_more))]
 fn apply<S: Scheduler>(scheduler: &mut S, events: &[Event], picked: &mut Vec<Option<usize>>)
     requires empty { (picked.old.items ≡ []) × (vec_len picked.old ≡ 0) }
     requires room { length events.now ≤ vec_capacity picked.old }
     ensures answers { picked.new.items ≡ answers S.scheduling scheduler.old events.now }
     ensures state { scheduler.new ≡ state_after S.scheduling scheduler.old events.now }
 {
+    // A `match` and no closures: the events are the caller's data, and a contract can speak of them.
     for event in events {
         match *event {
             Event::Raise { slot, weight } => scheduler.raise(slot, weight),

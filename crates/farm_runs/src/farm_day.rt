@@ -1,12 +1,10 @@
 //! The course of the farm's day: when what happens, in seconds since midnight.
-use crate::farm::Event;
-
-/// How many things happen.
-pub const EVENTS: usize = 86;
+use farm::Event;
 
 /// The whole day.
-pub const DAY: [(u64, Event); EVENTS] = [
-    // from six in the morning: both paths carry records, one packet is lost, one grant is never settled
+pub const DAY: &[(u64, Event)] = &[
+    // from six in the morning: both paths carry records, one packet is lost, one grant is never
+    // settled
     (21_600, Event::Open(0, 0, 4)),
     (21_600, Event::Open(1, 0, 1)),
     (21_600, Event::Open(2, 0, 2)),
@@ -34,12 +32,12 @@ pub const DAY: [(u64, Event); EVENTS] = [
     (21_605, Event::Settle(3, 1_200)),
     (21_605, Event::Settle(4, 1_200)),
     (21_605, Event::Settle(5, 1_200)),
-    (21_609, Event::Clear(0, 1_200, 180_000)),
-    (21_609, Event::Clear(1, 1_200, 0)),
-    (21_609, Event::Clear(2, 900, 0)),
-    (21_609, Event::Clear(4, 1_200, 220_000)),
-    (21_609, Event::Clear(5, 1_200, 0)),
-    (21_609, Event::Loss(7, 0, 1_200)),
+    (21_609, Event::Clear(0, 1_200, Some(180_000))),
+    (21_609, Event::Clear(1, 1_200, None)),
+    (21_609, Event::Clear(2, 900, None)),
+    (21_609, Event::Clear(4, 1_200, Some(220_000))),
+    (21_609, Event::Clear(5, 1_200, None)),
+    (21_609, Event::Loss(7, 0, 1_200, None)),
     (21_610, Event::Request(3)),
     (21_610, Event::Request(6)),
     (21_610, Event::Request(8)),
@@ -66,8 +64,8 @@ pub const DAY: [(u64, Event); EVENTS] = [
     (43_205, Event::Settle(10, 1_200)),
     (43_205, Event::Settle(11, 1_000)),
     (43_205, Event::Settle(12, 1_200)),
-    (43_208, Event::Mark(4, 2_400)),
-    (43_209, Event::Clear(0, 2_200, 190_000)),
+    (43_208, Event::Mark(4, 2_400, None)),
+    (43_209, Event::Clear(0, 2_200, Some(190_000))),
     (47_700, Event::Silence(8, 1_200)),
     (47_701, Event::Request(5)),
     (47_701, Event::Request(7)),
@@ -79,8 +77,8 @@ pub const DAY: [(u64, Event); EVENTS] = [
     (47_711, Event::Poll(0)),
     (47_720, Event::Settle(13, 1_200)),
     (47_720, Event::Settle(14, 1_200)),
-    (47_725, Event::Clear(5, 1_200, 0)),
-    (47_725, Event::Clear(7, 1_200, 240_000)),
+    (47_725, Event::Clear(5, 1_200, None)),
+    (47_725, Event::Clear(7, 1_200, Some(240_000))),
     (47_730, Event::Poll(0)),
     (47_730, Event::Poll(0)),
     (47_735, Event::Settle(15, 600)),

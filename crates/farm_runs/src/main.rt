@@ -2,119 +2,124 @@
 //! controllers and class trees.
 #![tactic(auto)]
 
-mod accounts;
-mod farm;
+ghost use Rattle.std.specs.Prelude.{◌*◌, ◌<◌, ◌^◌};
+ghost use Rattle.std.specs.Mem.{type_size};
+
 mod farm_day;
 mod telling;
 
 use class_tree::ClassTree;
 use controllers::{ByteAimd, RateController};
-use farm::{PACKET, PATHS};
+use farm::{Accounts, Refused};
 use farm_day::DAY;
-use house::{run_class_tree, run_round_robin};
+use house::{Bounded, run_bounded};
 use manager::Call;
-use meaning::Refusal;
+use meaning::{Controller, Refusal};
 use runs::{Outcome, RunError};
 use schedulers::RoundRobin;
 use std::alloc::{AllocError, Global};
 use std::io;
 use tables::Row;
+use telling::tell_done;
+
+/// The packet size of the farm's radio paths in bytes.
+const PACKET: u64 = 1_200;
+
+/// The number of radio paths: each is a macroflow.
+const PATHS: usize = 2;
 
 /// The rows of the farm's ledger.
 const ROWS: usize = 32;
 
-/// Tells what was refused, and why.
-fn refused(rt: &impl Print, what: &str, refusal: Refusal) -> io::Result<()> {
-    let number = refusal.number;
-    println!(rt; "{what}: refused, number {number}")
-}
-
 /// The calls of the farm's day.
 fn calls_of_the_day(heap: Global) -> Result<Vec<Call>, AllocError> {
-    let mut calls = Vec::new(heap);
-    for (seconds, event) in &DAY {
-        calls.push(farm::call(*seconds, *event))?;
-    }
-    Ok(calls)
+    DAY.iter()
+        .map(|(seconds, event)| event.at(*seconds))
+        .collect(heap)
 }
 
 /// Tells how a run of the day went, and prints its accounts.
-fn tell_day(
+fn tell_day(rt: &impl Print, calls: &[Call], rows: &[Row], outcome: &Outcome) -> io::Result<()> {
+    let accounts = Accounts {
+        manager: &outcome.manager,
+        rows,
+        paths: PATHS,
+    };
+    for (call, answer) in calls.iter().zip(outcome.answers.iter()) {
+        tell_done(rt, *call, *answer)?;
+        accounts.tell(rt, *call, *answer)?;
+    }
+    accounts.show(rt)
+}
+
+/// Passes the day with this controller, if it was made, and this scheduler for each path, over
+/// fresh rows, and prints how it went and its accounts. Two of each have to fit in memory, as every
+/// slice does.
+fn pass<C: Controller, S: Bounded>(
     rt: &impl Print,
+    heap: Global,
     calls: &[Call],
-    rows: &[Row],
-    ran: Result<Outcome, RunError>,
-) -> io::Result<()> {
-    match ran {
-        Ok(Outcome { manager, answers }) => {
-            for (call, answer) in calls.iter().zip(answers.iter()) {
-                telling::tell(rt, rows, *call, *answer)?;
-            }
-            accounts::ledger(rt, &manager, rows)?;
-            accounts::bill(rt, &manager)?;
-            accounts::crew(rt, &manager)
-        }
-        Err(RunError::Refused(refusal)) => refused(rt, "The farm", refusal),
+    name: &str,
+    made: Result<C, Refusal>,
+    scheduler: S,
+) -> io::Result<()>
+    requires controllers_fit { 2 * type_size C.row < 2 ^ 63 }
+    requires schedulers_fit { 2 * type_size S.row < 2 ^ 63 }
+{
+    let controller = match made {
+        Ok(controller) => controller,
+        Err(refusal) => return println!(rt; "{name}: {}", Refused(refusal)),
+    };
+    let mut controllers = [controller; PATHS];
+    let mut schedulers = [scheduler; PATHS];
+    let mut rows = [Row::blank(); ROWS];
+    match run_bounded(
+        heap,
+        PATHS,
+        &mut controllers,
+        &mut schedulers,
+        &mut rows,
+        calls,
+    ) {
+        Ok(outcome) => tell_day(rt, calls, &rows, &outcome),
+        Err(RunError::Refused(refusal)) => println!(rt; "The farm: {}", Refused(refusal)),
         Err(RunError::NoMemory) => println!(rt; "There is no memory for the day"),
     }
 }
 
-/// The day with byte AIMD and round robins.
-fn day_by_windows(rt: &impl Print, heap: Global, calls: &[Call]) -> io::Result<()> {
+/// The day by both pairs of parts.
+fn days(rt: &impl Print, heap: Global, calls: &[Call]) -> io::Result<()> {
     println!(rt;
         "1. A farm's day: six turbines, nine streams, two radio paths, by byte AIMD and round robin"
     )?;
     println!(rt; "")?;
-    let mut rows = [Row::blank(); ROWS];
-    let mut schedulers = [RoundRobin::<32>::new(); PATHS];
-    match ByteAimd::new(PACKET) {
-        Ok(controller) => {
-            let mut controllers = [controller; PATHS];
-            let ran = run_round_robin(
-                heap,
-                PATHS,
-                &mut controllers,
-                &mut schedulers,
-                &mut rows,
-                calls,
-            );
-            tell_day(rt, calls, &rows, ran)
-        }
-        Err(refusal) => refused(rt, "Byte AIMD", refusal),
-    }
-}
-
-/// The same day with rate controllers and class trees.
-fn day_by_rates(rt: &impl Print, heap: Global, calls: &[Call]) -> io::Result<()> {
+    let controller = ByteAimd::new(PACKET);
+    pass(
+        rt,
+        heap,
+        calls,
+        "Byte AIMD",
+        controller,
+        RoundRobin::<32>::new(),
+    )?;
     println!(rt; "")?;
     println!(rt; "2. The same day, by the rate controller and the class tree")?;
     println!(rt; "")?;
-    let mut rows = [Row::blank(); ROWS];
-    let mut schedulers = [ClassTree::new(); PATHS];
-    match RateController::new(PACKET) {
-        Ok(controller) => {
-            let mut controllers = [controller; PATHS];
-            let ran = run_class_tree(
-                heap,
-                PATHS,
-                &mut controllers,
-                &mut schedulers,
-                &mut rows,
-                calls,
-            );
-            tell_day(rt, calls, &rows, ran)
-        }
-        Err(refusal) => refused(rt, "Rate controller", refusal),
-    }
+    let controller = RateController::new(PACKET);
+    pass(
+        rt,
+        heap,
+        calls,
+        "Rate controller",
+        controller,
+        ClassTree::new(),
+    )
 }
 
 fn main(rt: HostRuntime) -> io::Result<()> {
     let heap = rt.alloc();
     match calls_of_the_day(heap) {
-        Ok(calls) => {
-            day_by_windows(&rt, heap, calls.as_slice())?;
-            day_by_rates(&rt, heap, calls.as_slice())
-        }
+        Ok(calls) => days(&rt, heap, calls.as_slice()),
         Err(_) => println!(rt; "There is no memory for the day"),
     }
 }

@@ -7,6 +7,7 @@
 --   due m rs t            the open row to expire at t: the earliest deadline, then the lower slot, then the lower grant
 use Rattle.std.specs.Prelude.{◌≡◌, ℕ, ◌+◌, ◌-◌, ◌^◌, ◌<◌, ◌≤◌, Bool, not, ◌&&◌, List, [], ◌∷◌, length, take, Some, None, Ok, Option, Result, ◌==◌, nat_le, nat_lt, slice_index_or, slice_set}
 use Rattle.least.specs.Order.{first_least}
+use Rattle.meaning.specs.declared.refusal.Reason.TheVariants as reason
 use Rattle.meaning.specs.declared.refusal.Refusal.{Refusal}
 use Rattle.tables.specs.declared.core_state.Core.{Core}
 use Rattle.tables.specs.declared.row.Row.{Row}
@@ -14,7 +15,8 @@ use Rattle.tables.specs.declared.stream.Stream.{Stream}
 use Rattle.tables.specs.Numbers.{fits, all_fit}
 use Rattle.tables.specs.Streams.{settled, expired}
 use Rattle.tables.specs.Rows.{blank_row, is_open, is_due, due_upto, taken_up, settled_row, expired_row}
-use Rattle.tables.specs.Core.{stream, timely, about_slot, about_nothing, at_time, put}
+use Rattle.meaning.specs.Refusals.{about_nothing}
+use Rattle.tables.specs.Core.{stream, timely, about_slot, at_time, put}
 use Rattle.tables.specs.Replies.{Reply, reply, Question, q, asked, answered}
 
 abbrev pub row : List Row → ℕ → Row
@@ -27,14 +29,14 @@ abbrev pub is_covered : Core → Row → Bool
 is_covered m r = nat_lt r.slot 32 && ((stream m r.slot).opened && nat_le r.granted (stream m r.slot).reserved)
 
 abbrev pub found_questions : Core → List Row → ℕ → ℕ → List Question
-found_questions m rs t g = q (length rs == m.capacity) 1 ∷ q (timely m t) 2 ∷ q (nat_lt g m.issued && nat_lt g (length rs)) 10 ∷ []
+found_questions m rs t g = q (length rs == m.capacity) reason.TablesDisagree ∷ q (timely m t) reason.NotTimely ∷ q (nat_lt g m.issued && nat_lt g (length rs)) reason.NotIssued ∷ []
 
 abbrev pub found : Core → List Row → ℕ → ℕ → Result Row Refusal
 found m rs t g = asked (found_questions m rs t g) about_nothing (row rs g)
 
 -- a ticket is given out at the time t for the grant g
 abbrev pub take_up_questions : Core → Row → List Question
-take_up_questions m r = q (is_open r.fate) 11 ∷ q (is_covered m r) 1 ∷ q (not r.taken) 12 ∷ []
+take_up_questions m r = q (is_open r.fate) reason.GrantEnded ∷ q (is_covered m r) reason.TablesDisagree ∷ q (not r.taken) reason.AlreadyTaken ∷ []
 
 abbrev pub take_up : Core → List Row → ℕ → ℕ → Reply (Result ℕ Refusal) (List Row)
 take_up m rs t g =
@@ -46,10 +48,10 @@ take_up m rs t g =
 abbrev pub settle_questions : Core → Row → ℕ → List Question
 settle_questions m r n =
     let s = stream m r.slot in
-    q (is_open r.fate) 11
-    ∷ q (is_covered m r) 1
-    ∷ q (nat_le n r.granted) 13
-    ∷ q (nat_lt s.macroflow m.macroflows && all_fit ((s.reserved - r.granted) ∷ (s.outstanding + n) ∷ (s.charged + n) ∷ [])) 1
+    q (is_open r.fate) reason.GrantEnded
+    ∷ q (is_covered m r) reason.TablesDisagree
+    ∷ q (nat_le n r.granted) reason.SentTooMuch
+    ∷ q (nat_lt s.macroflow m.macroflows && all_fit ((s.reserved - r.granted) ∷ (s.outstanding + n) ∷ (s.charged + n) ∷ [])) reason.TablesDisagree
     ∷ []
 
 -- what these questions leave known of the record s of the row's slot
@@ -71,12 +73,12 @@ abbrev pub due : Core → List Row → ℕ → Option ℕ
 due m rs t = first_least (is_due t) due_upto (issued_rows m rs)
 
 abbrev pub expire_questions : Core → ℕ → ℕ → List Question
-expire_questions m n t = q (n == m.capacity) 1 ∷ q (timely m t) 2 ∷ []
+expire_questions m n t = q (n == m.capacity) reason.TablesDisagree ∷ q (timely m t) reason.NotTimely ∷ []
 
 abbrev pub end_questions : Core → Row → List Question
 end_questions m r =
     let s = stream m r.slot in
-    q (is_covered m r) 1 ∷ q (nat_lt s.macroflow m.macroflows && fits (s.reserved - r.granted)) 1 ∷ []
+    q (is_covered m r) reason.TablesDisagree ∷ q (nat_lt s.macroflow m.macroflows && fits (s.reserved - r.granted)) reason.TablesDisagree ∷ []
 
 -- what these questions leave known of the record s of the row's slot
 pub record Endable (m : Core) (r : Row) (s : Stream) : Type 0 where

@@ -7,6 +7,7 @@
 --   poll …                the questions of every poll; none waits; no fit; or a grant
 use Rattle.std.specs.Prelude.{ℕ, ◌+◌, ◌-◌, Bool, cond, ◌&&◌, List, [], ◌∷◌, length, Some, None, Ok, Err, Option, Result, ◌==◌, nat_le, nat_lt, slice_index_or, slice_set}
 use Rattle.std.specs.Bool.{beq}
+use Rattle.meaning.specs.declared.refusal.Reason.TheVariants as reason
 use Rattle.meaning.specs.declared.refusal.Refusal.{Refusal}
 use Rattle.meaning.specs.Control.{Control}
 use Rattle.meaning.specs.Scheduling.{Scheduling}
@@ -51,13 +52,13 @@ issued_to m t i p = record {
 
 module _ {S : Type 0} (k : Scheduling S) (m : Core) (ss : List S) (rs : List Row) (t f p : ℕ) where
   abbrev pub granted : S → Option ℕ → PollReply S
-  granted x None = reply (Err (about_macroflow m None f 1)) m (ss, rs)
+  granted x None = reply (Err (about_macroflow m None f reason.TablesDisagree)) m (ss, rs)
   granted x (Some i) =
-      answered (asked (q (can_get m i f t p) 1 ∷ []) (about_macroflow m None f) (stream m i)) m (ss, rs)
+      answered (asked (q (can_get m i f t p) reason.TablesDisagree ∷ []) (about_macroflow m None f) (stream m i)) m (ss, rs)
       (λ s. reply (Ok (Granted m.issued)) (issued_to m t i p) (slice_set ss f (served k x i s), slice_set rs m.issued (open_row i f p t (t + s.life))))
 
   abbrev pub issue_questions : S → List Question
-  issue_questions x = q (nat_lt m.issued (length rs)) 9 ∷ q (agrees k m x f) 1 ∷ []
+  issue_questions x = q (nat_lt m.issued (length rs)) reason.LedgerFull ∷ q (agrees k m x f) reason.TablesDisagree ∷ []
 
   abbrev pub issued : PollReply S
   issued =
@@ -66,9 +67,9 @@ module _ {S : Type 0} (k : Scheduling S) (m : Core) (ss : List S) (rs : List Row
 
 abbrev pub poll_questions : Core → ℕ → ℕ → ℕ → ℕ → ℕ → List Question
 poll_questions m controllers schedulers rows t f =
-    q (controllers == m.macroflows && (schedulers == m.macroflows && rows == m.capacity)) 1
-    ∷ q (timely m t) 2
-    ∷ q (nat_lt f m.macroflows) 4
+    q (controllers == m.macroflows && (schedulers == m.macroflows && rows == m.capacity)) reason.TablesDisagree
+    ∷ q (timely m t) reason.NotTimely
+    ∷ q (nat_lt f m.macroflows) reason.NoSuchMacroflow
     ∷ []
 
 module _ {C S : Type 0} (c : Control C) (k : Scheduling S) where

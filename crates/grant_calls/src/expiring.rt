@@ -1,12 +1,13 @@
 //! A grant that was not settled in time expires.
 ghost use Rattle.std.specs.Prelude.{◌≡◌, ◌<◌, ◌≤◌, length, IfOk, Some, OnErr};
-ghost use Rattle.tables.specs.Core.{stream as stream_at, about_nothing, about_slot};
+ghost use Rattle.meaning.specs.Refusals.{about_nothing};
+ghost use Rattle.tables.specs.Core.{stream as stream_at, about_slot};
 ghost use Rattle.tables.specs.Replies.{reply, asked};
 ghost use Rattle.grant_calls.specs.Grants.{row as row_at, Endable, expire_questions, end_questions, expired_at, expire as expire_call};
 
-use crate::finding::{about_nothing, is_covered};
+use crate::finding::is_covered;
 use least::least_of_first;
-use meaning::Refusal;
+use meaning::{Reason, Refusal};
 use tables::{Core, Due, Fate, Row, Stream, difference_fits};
 
 /// The questions before anything is looked for.
@@ -14,10 +15,10 @@ fn ask_expire(core: &Core, rows: usize, time: u64) -> Result<(), Refusal>
     ensures { result ≡ asked (expire_questions core.now rows time) about_nothing tt }
 {
     if rows != core.capacity {
-        return Err(about_nothing(1));
+        return Err(Reason::TablesDisagree.into());
     }
     if !core.is_timely(time) {
-        return Err(about_nothing(2));
+        return Err(Reason::NotTimely.into());
     }
     Ok(())
 }
@@ -28,11 +29,11 @@ fn ask_end(core: &Core, row: Row) -> Result<Stream, Refusal>
     ensures facts { IfOk result (λ s. Endable core.now row s) }
 {
     if !is_covered(core, &row) {
-        return Err(core.about_slot(row.slot, 1));
+        return Err(core.slot_refusal(row.slot, Reason::TablesDisagree));
     }
     let stream = core.streams[row.slot];
     if stream.macroflow >= core.macroflows || !difference_fits(stream.reserved, row.granted) {
-        return Err(core.about_slot(row.slot, 1));
+        return Err(core.slot_refusal(row.slot, Reason::TablesDisagree));
     }
     Ok(stream)
 }

@@ -1,21 +1,9 @@
 //! The row of a grant.
 ghost use Rattle.std.specs.Prelude.{◌≡◌, ◌<◌, length, IfOk, OnOk};
-ghost use Rattle.tables.specs.Core.{about_nothing};
 ghost use Rattle.grant_calls.specs.Grants.{row as row_at, found, is_covered};
 
-use meaning::Refusal;
-use tables::{Core, Row, SLOTS};
-
-/// A refusal that is about no slot and no macroflow.
-pub(crate) fn about_nothing(number: u8) -> Refusal
-    ensures { result ≡ about_nothing number }
-{
-    Refusal {
-        number,
-        slot: None,
-        macroflow: None,
-    }
-}
+use meaning::{Reason, Refusal};
+use tables::{Core, Row};
 
 /// The first questions about a grant, which give its row.
 pub(crate) fn find(core: &Core, rows: &[Row], time: u64, grant: usize) -> Result<Row, Refusal>
@@ -24,13 +12,13 @@ pub(crate) fn find(core: &Core, rows: &[Row], time: u64, grant: usize) -> Result
     ensures read { IfOk result (λ x. x ≡ row_at rows.now grant) }
 {
     if rows.len() != core.capacity {
-        return Err(about_nothing(1));
+        return Err(Reason::TablesDisagree.into());
     }
     if !core.is_timely(time) {
-        return Err(about_nothing(2));
+        return Err(Reason::NotTimely.into());
     }
     if grant >= core.issued || grant >= rows.len() {
-        return Err(about_nothing(10));
+        return Err(Reason::NotIssued.into());
     }
     Ok(rows[grant])
 }
@@ -39,7 +27,7 @@ pub(crate) fn find(core: &Core, rows: &[Row], time: u64, grant: usize) -> Result
 pub(crate) fn is_covered(core: &Core, row: &Row) -> bool
     ensures { result ≡ is_covered core.now row.now }
 {
-    row.slot < SLOTS
-        && core.streams[row.slot].opened
-        && row.granted <= core.streams[row.slot].reserved
+    core.streams
+        .get(row.slot)
+        .is_some_and(|stream| stream.opened && row.granted <= stream.reserved)
 }

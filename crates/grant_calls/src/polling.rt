@@ -4,8 +4,8 @@ ghost use Rattle.tables.specs.Core.{about_macroflow};
 ghost use Rattle.tables.specs.Replies.{reply, asked};
 ghost use Rattle.grant_calls.specs.Polls.{agrees as AgreesOn, can_get, granted, issued, poll_questions, poll as poll_call};
 
-use meaning::{Controller, Refusal, Scheduler};
-use tables::{Core, Row, SLOTS, difference_fits, sum_fits};
+use meaning::{Controller, Reason, Refusal, Scheduler};
+use tables::{Core, Row, difference_fits, sum_fits};
 
 /// What a poll comes to.
 #[derive(Clone, Copy, PartialEq, Eq, Debug)]
@@ -31,13 +31,13 @@ fn ask_poll(
     ensures facts { OnOk result ((macroflow < controllers) × (macroflow < schedulers) × (time ≤ 1000000000000000)) }
 {
     if controllers != core.macroflows || schedulers != core.macroflows || rows != core.capacity {
-        return Err(core.about_macroflow(None, macroflow, 1));
+        return Err(core.macroflow_refusal(None, macroflow, Reason::TablesDisagree));
     }
     if !core.is_timely(time) {
-        return Err(core.about_macroflow(None, macroflow, 2));
+        return Err(core.macroflow_refusal(None, macroflow, Reason::NotTimely));
     }
     if macroflow >= core.macroflows {
-        return Err(core.about_macroflow(None, macroflow, 4));
+        return Err(core.macroflow_refusal(None, macroflow, Reason::NoSuchMacroflow));
     }
     Ok(())
 }
@@ -46,12 +46,9 @@ fn ask_poll(
 fn agrees<S: Scheduler>(core: &Core, scheduler: &S, macroflow: usize) -> bool
     ensures { result ≡ AgreesOn S.scheduling core.now scheduler.now macroflow }
 {
-    for slot in 0..SLOTS {
-        if scheduler.is_waiting(slot) != core.streams[slot].waits_in(macroflow) {
-            return false;
-        }
-    }
-    true
+    core.streams.iter().enumerate().all(|(slot, stream)| {
+        scheduler.is_waiting(slot) == stream.waits_in(macroflow)
+    })
 }
 
 /// Whether a slot can get a grant: it waits in the macroflow, and each number fits that would be
@@ -59,14 +56,16 @@ fn agrees<S: Scheduler>(core: &Core, scheduler: &S, macroflow: usize) -> bool
 fn can_get_grant(core: &Core, slot: usize, macroflow: usize, time: u64, packet: u64) -> bool
     ensures { result ≡ can_get core.now slot macroflow time packet }
 {
-    slot < SLOTS
-        && core.streams[slot].waits_in(macroflow)
-        && sum_fits(time, core.streams[slot].life)
-        && difference_fits(core.streams[slot].waiting, 1)
-        && sum_fits(core.streams[slot].reserved, packet)
+    core.streams.get(slot).is_some_and(|stream| {
+        stream.waits_in(macroflow)
+            && sum_fits(time, stream.life)
+            && difference_fits(stream.waiting, 1)
+            && sum_fits(stream.reserved, packet)
+    })
 }
 
-/// Issues the next grant to the slot that the scheduler picks.
+/// Issues the next grant to the slot that the scheduler picks. That the macroflow has a scheduler in the
+/// list is about a number and a list together, so no type of either could say it.
 fn issue<S: Scheduler>(
     core: &mut Core,
     schedulers: &mut [S],
@@ -81,17 +80,18 @@ fn issue<S: Scheduler>(
 {
     let grant = core.issued;
     if grant >= rows.len() {
-        return Err(core.about_macroflow(None, macroflow, 9));
+        return Err(core.macroflow_refusal(None, macroflow, Reason::LedgerFull));
     }
+    // A copy, so that a refusal after the pick leaves the list as it was.
     let mut scheduler = schedulers[macroflow];
     if !agrees(core, &scheduler, macroflow) {
-        return Err(core.about_macroflow(None, macroflow, 1));
+        return Err(core.macroflow_refusal(None, macroflow, Reason::TablesDisagree));
     }
     let Some(slot) = scheduler.pick() else {
-        return Err(core.about_macroflow(None, macroflow, 1));
+        return Err(core.macroflow_refusal(None, macroflow, Reason::TablesDisagree));
     };
     if !can_get_grant(core, slot, macroflow, time, packet) {
-        return Err(core.about_macroflow(None, macroflow, 1));
+        return Err(core.macroflow_refusal(None, macroflow, Reason::TablesDisagree));
     }
     let stream = core.streams[slot];
     if stream.waiting == 1 {
@@ -132,9 +132,9 @@ pub fn poll<C: Controller, S: Scheduler>(
         core.last = time;
         return Ok(Polled::NoneWaits);
     }
-    let controller = controllers[macroflow];
+    let controller = &controllers[macroflow];
     let packet = controller.packet();
-    if core.load(macroflow) + packet as u128 > controller.allowance() as u128 {
+    if core.load(macroflow) + u128::from(packet) > u128::from(controller.allowance()) {
         core.last = time;
         return Ok(Polled::NoFit);
     }

@@ -5,21 +5,22 @@ ghost use Rattle.tables.specs.Replies.{reply, asked};
 ghost use Rattle.grant_calls.specs.Grants.{take_up_questions, take_up as take_up_call, settle_questions, settle as settle_call, Settleable};
 
 use crate::finding::{find, is_covered};
-use meaning::Refusal;
+use meaning::{Reason, Refusal};
 use tables::{Core, Fate, Row, Stream, difference_fits, sum_fits};
 
-/// The questions before a ticket is given out for a row.
+/// The questions before a ticket is given out for a row. They answer the row, as the call's definition
+/// has it.
 fn ask_take_up(core: &Core, row: Row) -> Result<Row, Refusal>
     ensures { result ≡ asked (take_up_questions core.now row) (about_slot core.now row.slot) row }
 {
     if !row.is_open() {
-        return Err(core.about_slot(row.slot, 11));
+        return Err(core.slot_refusal(row.slot, Reason::GrantEnded));
     }
     if !is_covered(core, &row) {
-        return Err(core.about_slot(row.slot, 1));
+        return Err(core.slot_refusal(row.slot, Reason::TablesDisagree));
     }
     if row.taken {
-        return Err(core.about_slot(row.slot, 12));
+        return Err(core.slot_refusal(row.slot, Reason::AlreadyTaken));
     }
     Ok(row)
 }
@@ -42,13 +43,13 @@ fn ask_settle(core: &Core, row: Row, sent: u64) -> Result<Stream, Refusal>
     ensures facts { IfOk result (λ s. Settleable core.now row sent s) }
 {
     if !row.is_open() {
-        return Err(core.about_slot(row.slot, 11));
+        return Err(core.slot_refusal(row.slot, Reason::GrantEnded));
     }
     if !is_covered(core, &row) {
-        return Err(core.about_slot(row.slot, 1));
+        return Err(core.slot_refusal(row.slot, Reason::TablesDisagree));
     }
     if sent > row.granted {
-        return Err(core.about_slot(row.slot, 13));
+        return Err(core.slot_refusal(row.slot, Reason::SentTooMuch));
     }
     let stream = core.streams[row.slot];
     if stream.macroflow >= core.macroflows
@@ -56,7 +57,7 @@ fn ask_settle(core: &Core, row: Row, sent: u64) -> Result<Stream, Refusal>
         || !sum_fits(stream.outstanding, sent)
         || !sum_fits(stream.charged, sent)
     {
-        return Err(core.about_slot(row.slot, 1));
+        return Err(core.slot_refusal(row.slot, Reason::TablesDisagree));
     }
     Ok(stream)
 }

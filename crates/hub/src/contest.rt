@@ -3,6 +3,7 @@ use meaning::Scheduler;
 use std::io;
 
 /// A stream in the contest: its slot, its weight, and what it carries.
+#[derive(Clone, Copy)]
 struct Entrant {
     slot: usize,
     weight: u64,
@@ -46,28 +47,31 @@ const PICKS: usize = 18;
 /// most that went to others before it was served.
 #[derive(Clone, Copy)]
 struct Fare {
+    entrant: Entrant,
     served: u64,
     since: u64,
     longest: u64,
 }
 
 impl Fare {
-    /// A pick went to the slot that is named.
-    fn note(&mut self, own: bool) {
-        if own {
+    fn new(entrant: Entrant) -> Fare {
+        Fare {
+            entrant,
+            served: 0,
+            since: 0,
+            longest: 0,
+        }
+    }
+
+    /// A pick went to this slot.
+    fn note(&mut self, picked: usize) {
+        if picked == self.entrant.slot {
             self.served = self.served.saturating_add(1);
             self.since = 0;
         } else {
             self.since = self.since.saturating_add(1);
             self.longest = self.longest.max(self.since);
         }
-    }
-}
-
-/// Notes a pick for every stream.
-fn note_all(fares: &mut [Fare; 5], picked: usize) {
-    for i in 0..5 {
-        fares[i].note(ENTRANTS[i].slot == picked);
     }
 }
 
@@ -83,16 +87,14 @@ pub fn hold<S: Scheduler>(
     for entrant in &ENTRANTS {
         scheduler.raise(entrant.slot, entrant.weight);
     }
-    let mut fares = [Fare {
-        served: 0,
-        since: 0,
-        longest: 0,
-    }; 5];
+    let mut fares = ENTRANTS.map(Fare::new);
     for _row in 0..ROWS {
         for _pick in 0..PICKS {
             if let Some(slot) = scheduler.pick() {
                 print!(rt; "{slot:>3}")?;
-                note_all(&mut fares, slot);
+                for fare in &mut fares {
+                    fare.note(slot);
+                }
             }
         }
         println!(rt; "")?;
@@ -100,14 +102,15 @@ pub fn hold<S: Scheduler>(
     show(rt, bound, &fares)
 }
 
-fn show(rt: &impl Print, bound: u64, fares: &[Fare; 5]) -> io::Result<()> {
+fn show(rt: &impl Print, bound: u64, fares: &[Fare]) -> io::Result<()> {
     println!(rt; "slot  stream              weight  served  longest wait  bound")?;
-    for i in 0..5 {
-        let slot = ENTRANTS[i].slot;
-        let name = ENTRANTS[i].name;
-        let weight = ENTRANTS[i].weight;
-        let served = fares[i].served;
-        let longest = fares[i].longest;
+    for fare in fares {
+        let Fare {
+            entrant: Entrant { slot, weight, name },
+            served,
+            longest,
+            ..
+        } = *fare;
         println!(rt; "{slot:>4}  {name:<18}  {weight:>6}  {served:>6}  {longest:>12}  {bound:>5}")?;
     }
     Ok(())

@@ -2,43 +2,33 @@
 //! finish.
 #![tactic(auto)]
 
-mod accounts;
 mod contest;
-mod farm;
 mod farm_day;
 mod path_day;
 
 use class_tree::ClassTree;
 use controllers::{ByteAimd, RateController};
-use farm::Farm;
-use meaning::Refusal;
+use farm::{Host, Refused, StreamName};
+use farm_day::DAY;
 use schedulers::RoundRobin;
 use std::io;
 
 /// The packet size of the farm's radio path in bytes.
 const PACKET: u64 = 1_200;
 
-/// Tells what was refused, and why.
-fn refused(rt: &impl Print, what: &str, refusal: Refusal) -> io::Result<()> {
-    let number = refusal.number;
-    println!(rt; "{what}: refused, number {number}")
-}
+/// The rows of the farm's ledger.
+const ROWS: usize = 32;
 
 /// Tells a day of reports to both controllers.
 fn controllers_day(rt: &impl Print) -> io::Result<()> {
     println!(rt; "1. A radio path's day, told to both controllers (packets of {PACKET} bytes)")?;
-    match ByteAimd::new(PACKET) {
-        Ok(mut controller) => path_day::tell(rt, "Byte AIMD", "window", &mut controller)?,
-        Err(refusal) => refused(rt, "Byte AIMD", refusal)?,
-    }
-    match RateController::new(PACKET) {
-        Ok(mut controller) => path_day::tell(rt, "Rate controller", "rate", &mut controller)?,
-        Err(refusal) => refused(rt, "Rate controller", refusal)?,
-    }
+    path_day::tell(rt, "Byte AIMD", "window", ByteAimd::new(PACKET))?;
+    path_day::tell(rt, "Rate controller", "rate", RateController::new(PACKET))?;
     println!(rt; "")?;
+    print!(rt; "A controller with packets of 9001 bytes: ")?;
     match ByteAimd::new(9_001) {
-        Ok(_) => println!(rt; "A controller with packets of 9001 bytes: made"),
-        Err(refusal) => refused(rt, "A controller with packets of 9001 bytes", refusal),
+        Ok(_) => println!(rt; "made"),
+        Err(refusal) => println!(rt; "{}", Refused(refusal)),
     }
 }
 
@@ -50,19 +40,31 @@ fn schedulers_contest(rt: &impl Print) -> io::Result<()> {
     contest::hold(rt, "Class tree", 1_424, &mut ClassTree::new())
 }
 
-/// Passes a farm's day, and prints its accounts.
+/// Passes the farm's day, and tells what is worth a line.
+fn pass(rt: &impl Print, host: &mut Host<ROWS>) -> io::Result<()> {
+    for (seconds, event) in DAY {
+        let call = event.at(*seconds);
+        let answer = host.carry_out(call);
+        host.accounts().tell(rt, call, answer)?;
+    }
+    Ok(())
+}
+
+/// Passes the farm's day, and prints its accounts.
 fn day_of_the_farm(rt: &impl Print) -> io::Result<()> {
     println!(rt; "")?;
     println!(rt; "3. A farm's day: six turbines, nine streams, one radio path")?;
     println!(rt; "")?;
-    match Farm::new(PACKET) {
-        Ok(mut farm) => {
-            farm_day::pass(rt, &mut farm)?;
-            accounts::ledger(rt, &farm)?;
-            accounts::bill(rt, &farm)?;
-            accounts::crew(rt, &farm)
-        }
-        Err(refusal) => refused(rt, "The farm", refusal),
+    let mut host = match Host::<ROWS>::new(PACKET) {
+        Ok(host) => host,
+        Err(refusal) => return println!(rt; "The farm: {}", Refused(refusal)),
+    };
+    pass(rt, &mut host)?;
+    let accounts = host.accounts();
+    accounts.show(rt)?;
+    match accounts.manager.quietest() {
+        Some(slot) => println!(rt; "Quiet for longest: {}", StreamName(slot)),
+        None => println!(rt; "No stream is open"),
     }
 }
 

@@ -1,7 +1,8 @@
 //! A radio path's day in a dozen reports, and how a controller takes them.
 use controllers::{ByteAimd, RateController};
-use meaning::{Controller, Mode, Report};
-use std::{fmt, io};
+use farm::{OrHyphen, Refused};
+use meaning::{Controller, Mode, Refusal, Report};
+use std::io;
 
 /// The microseconds of a minute.
 const MINUTE: u64 = 60_000_000;
@@ -11,7 +12,7 @@ const DAY: [Report; 13] = [
     Report {
         received: 1_200,
         lost: 0,
-        mode: 0,
+        mode: Mode::Clear as u64,
         sample: Some(180_000),
         flight: 3_600,
         time: 360 * MINUTE,
@@ -19,7 +20,7 @@ const DAY: [Report; 13] = [
     Report {
         received: 2_400,
         lost: 0,
-        mode: 0,
+        mode: Mode::Clear as u64,
         sample: Some(176_000),
         flight: 3_600,
         time: 365 * MINUTE,
@@ -27,7 +28,7 @@ const DAY: [Report; 13] = [
     Report {
         received: 7_200,
         lost: 0,
-        mode: 0,
+        mode: Mode::Clear as u64,
         sample: None,
         flight: 7_200,
         time: 450 * MINUTE,
@@ -35,7 +36,7 @@ const DAY: [Report; 13] = [
     Report {
         received: 3_600,
         lost: 2_400,
-        mode: 1,
+        mode: Mode::Loss as u64,
         sample: Some(210_000),
         flight: 7_200,
         time: 490 * MINUTE,
@@ -43,7 +44,7 @@ const DAY: [Report; 13] = [
     Report {
         received: 2_400,
         lost: 0,
-        mode: 0,
+        mode: Mode::Clear as u64,
         sample: Some(190_000),
         flight: 3_600,
         time: 540 * MINUTE,
@@ -51,7 +52,7 @@ const DAY: [Report; 13] = [
     Report {
         received: 1_200,
         lost: 0,
-        mode: 0,
+        mode: Mode::Clear as u64,
         sample: None,
         flight: 2_400,
         time: 620 * MINUTE,
@@ -59,7 +60,7 @@ const DAY: [Report; 13] = [
     Report {
         received: 12_800,
         lost: 0,
-        mode: 0,
+        mode: Mode::Clear as u64,
         sample: Some(184_000),
         flight: 14_000,
         time: 705 * MINUTE,
@@ -67,7 +68,7 @@ const DAY: [Report; 13] = [
     Report {
         received: 3_600,
         lost: 0,
-        mode: 2,
+        mode: Mode::Mark as u64,
         sample: Some(260_000),
         flight: 6_000,
         time: 720 * MINUTE,
@@ -75,7 +76,7 @@ const DAY: [Report; 13] = [
     Report {
         received: 0,
         lost: 3_600,
-        mode: 3,
+        mode: Mode::Silence as u64,
         sample: None,
         flight: 3_600,
         time: 795 * MINUTE,
@@ -83,7 +84,7 @@ const DAY: [Report; 13] = [
     Report {
         received: 1_200,
         lost: 0,
-        mode: 0,
+        mode: Mode::Clear as u64,
         sample: Some(170_000),
         flight: 1_200,
         time: 796 * MINUTE,
@@ -91,7 +92,7 @@ const DAY: [Report; 13] = [
     Report {
         received: 1_200,
         lost: 0,
-        mode: 0,
+        mode: Mode::Clear as u64,
         sample: Some(0),
         flight: 2_400,
         time: 900 * MINUTE,
@@ -99,7 +100,7 @@ const DAY: [Report; 13] = [
     Report {
         received: 2_400,
         lost: 0,
-        mode: 0,
+        mode: Mode::Clear as u64,
         sample: Some(168_000),
         flight: 2_400,
         time: 1_065 * MINUTE,
@@ -107,7 +108,7 @@ const DAY: [Report; 13] = [
     Report {
         received: 3_600,
         lost: 0,
-        mode: 0,
+        mode: Mode::Clear as u64,
         sample: None,
         flight: 3_600,
         time: 1_110 * MINUTE,
@@ -143,7 +144,8 @@ impl Figures for RateController {
     }
 }
 
-/// What a report was, in a word.
+/// What a report was, in a word. A function and no `Display` of the mode, since a report that is
+/// ignored has a word too, and has no mode.
 fn report_word(report: &Report) -> &'static str {
     match report.heard() {
         Some(Mode::Clear) => "clear",
@@ -154,20 +156,8 @@ fn report_word(report: &Report) -> &'static str {
     }
 }
 
-/// A number, or a hyphen where there is none.
-#[derive(Clone, Copy)]
-struct Maybe(Option<u64>);
-
-impl fmt::Display for Maybe {
-    fn fmt<W: fmt::Write>(&self, f: &mut fmt::Formatter<W>) -> fmt::Result {
-        match self.0 {
-            Some(number) => write!(f, "{number:>11}"),
-            None => write!(f, "{:>11}", "-"),
-        }
-    }
-}
-
-/// Prints one line of the table: the controller as it stands.
+/// Prints one line of the table: the controller as it stands. The time is in hours and minutes, and
+/// no `TimeOfDay`: the reports of the table come by the minute.
 fn show<C: Controller + Figures>(
     rt: &impl Print,
     time: u64,
@@ -178,31 +168,33 @@ fn show<C: Controller + Figures>(
     let hour = minutes / 60;
     let minute = minutes % 60;
     let figure = controller.main_figure();
-    let threshold = Maybe(controller.threshold());
-    let round_trip = match controller.path() {
-        Some(path) => Maybe(Some(path.smoothed())),
-        None => Maybe(None),
-    };
+    let threshold = OrHyphen(controller.threshold());
+    let round_trip = OrHyphen(controller.path().map(|path| path.smoothed()));
     let allowance = controller.allowance();
     println!(rt;
-        "{hour:02}:{minute:02}  {word:<8} {figure:>9} {threshold} {round_trip} {allowance:>10}"
+        "{hour:02}:{minute:02}  {word:<8} {figure:>9} {threshold:>11} {round_trip:>11} {allowance:>10}"
     )
 }
 
-/// Tells a controller the reports of the day one by one, and prints how it stands after each.
+/// Tells a controller, if it was made, the reports of the day one by one, and prints how it stands
+/// after each.
 pub fn tell<C: Controller + Figures>(
     rt: &impl Print,
     name: &str,
     figure: &str,
-    controller: &mut C,
+    made: Result<C, Refusal>,
 ) -> io::Result<()> {
+    let mut controller = match made {
+        Ok(controller) => controller,
+        Err(refusal) => return println!(rt; "{name}: {}", Refused(refusal)),
+    };
     println!(rt; "")?;
     println!(rt; "{name}")?;
     println!(rt; "time   report   {figure:>9}   threshold  round trip  allowance")?;
-    show(rt, 0, "start", controller)?;
+    show(rt, 0, "start", &controller)?;
     for report in &DAY {
         controller.report(*report);
-        show(rt, report.time, report_word(report), controller)?;
+        show(rt, report.time, report_word(report), &controller)?;
     }
     Ok(())
 }

@@ -6,7 +6,7 @@
 --   patience_changed   and who waits on has no more patience than before
 --   bound_changed      the bound stays
 use Rattle.std.proofs.Common.{◌≡◌, ℕ, zero, suc, ◌<◌, ◌≤◌, Bool, true, false, cond, ltb, sym, refl, ap, ◌∙◌, subst, ⊎_elim, arith}
-use Rattle.std.proofs.lemmas.Bool.{cases_eq, lt-ltb, le-ltb, cases_lt}
+use Rattle.std.proofs.lemmas.Bool.{cond-true, cond-false, cases_eq, lt-ltb, le-ltb, cases_lt}
 use Rattle.meaning.specs.Scheduling.{Scheduling, SchedulingLaws}
 use Rattle.law.specs.History.{changed, changed_to}
 
@@ -38,45 +38,41 @@ module _ {S : Type 0} (d : Scheduling S) where
 module _ {S : Type 0} (d : Scheduling S) (laws : SchedulingLaws 32 d) where
   -- one slot: it waits as it was told, and no other is touched
   changed_own : (s : S) (i w : ℕ) (before now : Bool) → d.waits s i ≡ before → i < 32 → (now ≡ true → (1 ≤ w) × (w ≤ 8)) → d.waits (changed d s i w before now) i ≡ now
-  changed_own s i w true true e l h = e
   changed_own s i w false true e l h = laws.raise_adds s i w l (h refl).0 (h refl).1
   changed_own s i w true false e l h = laws.lower_removes s i
-  changed_own s i w false false e l h = e
+  changed_own s i w _ _ e l h = e
 
   changed_other : (s : S) (i w j : ℕ) (before now : Bool) → (j ≡ i → ⊥) → d.waits (changed d s i w before now) j ≡ d.waits s j
-  changed_other s i w j true true ne = refl
   changed_other s i w j false true ne = laws.raise_others s i w j ne
   changed_other s i w j true false ne = laws.lower_others s i j ne
-  changed_other s i w j false false ne = refl
+  changed_other s i w j _ _ ne = refl
 
   changed_patience : (s : S) (i w j : ℕ) (before now : Bool) → (j ≡ i → ⊥) → d.waits s j ≡ true → d.patience (changed d s i w before now) j ≤ d.patience s j
-  changed_patience s i w j true true ne on = omega arith
   changed_patience s i w j false true ne on = laws.raise_patience s i w j on ne
   changed_patience s i w j true false ne on = laws.lower_patience s i j on ne
-  changed_patience s i w j false false ne on = omega arith
+  changed_patience s i w j _ _ ne on = omega arith
 
   changed_bound : (s : S) (i w : ℕ) (before now : Bool) → d.bound (changed d s i w before now) ≡ d.bound s
-  changed_bound s i w true true = refl
   changed_bound s i w false true = laws.raise_bound s i w
   changed_bound s i w true false = laws.lower_bound s i
-  changed_bound s i w false false = refl
+  changed_bound s i w _ _ = refl
 
   pub waits_changed : (n : ℕ) (before now : ℕ → Bool) (w : ℕ → ℕ) (s : S) → n ≤ 32 → ((j : ℕ) → d.waits s j ≡ before j) → ((j : ℕ) → now j ≡ true → (1 ≤ w j) × (w j ≤ 8))
       → (j : ℕ) → d.waits (changed_to d n before now w s) j ≡ cond (ltb j n) (now j) (before j)
   unfolding changed_to
-  waits_changed zero before now w s h e weights j = e j ∙ ap (λ b. cond b (now j) (before j)) (sym (le-ltb j 0 (omega arith)))
+  waits_changed zero before now w s h e weights j = e j ∙ sym (cond-false _ _ _ (le-ltb j 0 (omega arith)))
   waits_changed (suc n) before now w s h e weights j =
       let x = changed_to d n before now w s in
       let rest = waits_changed n before now w s (omega arith) e weights in
       ⊎_elim
       (λ (q : j ≡ n).
       subst (λ y. d.waits (changed d x n (w n) (before n) (now n)) y ≡ cond (ltb y (suc n)) (now y) (before y)) (sym q)
-      (changed_own x n (w n) (before n) (now n) (rest n ∙ ap (λ b. cond b (now n) (before n)) (le-ltb n n (omega arith))) (omega arith) (weights n)
-      ∙ ap (λ b. cond b (now n) (before n)) (sym (lt-ltb n (suc n) (omega arith)))))
+      (changed_own x n (w n) (before n) (now n) (rest n ∙ cond-false _ _ _ (le-ltb n n (omega arith))) (omega arith) (weights n)
+      ∙ sym (cond-true _ _ _ (lt-ltb n (suc n) (omega arith)))))
       (λ (ne : j ≡ n → ⊥).
       changed_other x n (w n) j (before n) (now n) ne ∙ rest j
       ∙ ap (λ b. cond b (now j) (before j))
-      (⊎_elim (λ (l : j < n). lt-ltb j n l ∙ sym (lt-ltb j (suc n) (omega arith))) (λ (l : n ≤ j). le-ltb j n l ∙ sym (le-ltb j (suc n) (omega arith))) (cases_lt j n)))
+      (grind (arith, ne, cases_lt j n, lt-ltb j n, lt-ltb j (suc n), le-ltb j n, le-ltb j (suc n))))
       (cases_eq j n)
 
   -- of a slot that waits on

@@ -3,10 +3,10 @@
 --   StreamsKept    each record tells what happened to its slot
 --   PartsKept      each controller and scheduler is the one that the history tells
 --   Kept            all of it
---   streams_at, ledger-at, waiting_more, controller_still, scheduler_still, scheduler_at    how it stays so with one call more
-use Rattle.std.proofs.Common.{◌≡◌, ℕ, ◌<◌, ◌≤◌, Bool, true, false, cond, ◌&&◌, eqb, List, [], ◌∷◌, length, get_or, set, sym, refl, ap, ◌∙◌, subst, ap₂, ⊎_elim, arith}
-use Rattle.std.proofs.lemmas.List.{get_or-set_same, get_or-set_other, length-set}
-use Rattle.std.proofs.lemmas.Bool.{eq-eqb, ne_eqb, lt-ltb, le-ltb, cases_lt, and_parts, true≢false}
+--   streams_at, waiting_more, controller_still, scheduler_still, scheduler_at    how it stays so with one call more
+use Rattle.std.proofs.Common.{◌≡◌, ℕ, ◌<◌, ◌≤◌, true, false, cond, ◌&&◌, eqb, List, [], ◌∷◌, length, get_or, set, sym, refl, ap, ◌∙◌, ap₂, ⊎_elim, arith}
+use Rattle.std.proofs.lemmas.List.{length-set}
+use Rattle.std.proofs.lemmas.Bool.{cond-true, cond-false, eq-eqb, ne_eqb, lt-ltb, le-ltb, cases_lt, and_parts, true≢false, cond_both}
 use Rattle.meaning.specs.Control.{Control}
 use Rattle.meaning.specs.Scheduling.{Scheduling, SchedulingLaws}
 use Rattle.tables.specs.declared.stream.Stream.{Stream}
@@ -14,11 +14,11 @@ use Rattle.tables.specs.Streams as stream
 use Rattle.manager.specs.State.{State}
 use Rattle.law.specs.Effects.{Booking, SlotEvent, Effect}
 use Rattle.law.specs.Effects.Booking.{Granted, Settled, Expired, Reported}
-use Rattle.law.specs.Effects.SlotEvent.{Opened, Moved, Closed, Requested, Booked}
+use Rattle.law.specs.Effects.SlotEvent.{Moved, Booked}
 use Rattle.law.specs.Effects.Effect.{Nothing, Passed, AtSlot, Merged}
 use Rattle.law.specs.Slots.{weight, waits, is_grant, granted}
 use Rattle.law.specs.History.{History, of_slot, open_in, is_in, waits_in, last_time, issued, is_end_of, booked, sum_of, flight, told, controller, changed, picked, picked_at, scheduler}
-use Rattle.law.proofs.Ways.{by_test, at_or_off}
+use Rattle.law.proofs.Ways.{at_set, event_cases}
 use Rattle.law.proofs.SlotFacts.{ended, SlotKept, waits_is}
 use Rattle.law.proofs.Changes.{unchanged, changed_one, waits_changed}
 use Rattle.law.proofs.Ledger.{SameBooks, LedgerKept}
@@ -41,22 +41,16 @@ pub streams_at : {F : ℕ} {h : History} {xs : List Stream} → StreamsKept F h 
 streams_at {F} {h} {xs} K t i e r near new = record {
   many = length-set xs i r ∙ K.many;
   slots = λ j l.
-      at_or_off i j (λ c x. SlotKept F (get_or (set xs i r) x stream.no_stream) (cond c (e ∷ of_slot h x) (of_slot h x)))
-      (subst (λ s. SlotKept F s (e ∷ of_slot h i)) (sym (get_or-set_same xs i r stream.no_stream (omega (arith, K.many)))) new)
-      (λ ne. subst (λ s. SlotKept F s (of_slot h j)) (sym (get_or-set_other xs i j r stream.no_stream (λ q. ne (sym q)))) (K.slots j l));
-  far = λ j l. ap (λ c. cond c (e ∷ of_slot h j) (of_slot h j)) (ne_eqb i j (λ (q : i ≡ j). omega arith)) ∙ K.far j l;
+      at_set xs i j r stream.no_stream (λ c x s. SlotKept F s (cond c (e ∷ of_slot h x) (of_slot h x))) (omega (arith, K.many)) new (λ _. K.slots j l);
+  far = λ j l. cond-false _ _ _ (ne_eqb i j (λ (q : i ≡ j). omega arith)) ∙ K.far j l;
 }
 
 -- what happens to a slot without a grant being issued or ended
 abbrev pub WritesNoRow : SlotEvent → Type 0
-WritesNoRow (Opened f w) = Unit {0}
-WritesNoRow (Moved f) = Unit {0}
-WritesNoRow Closed = Unit {0}
-WritesNoRow Requested = Unit {0}
 WritesNoRow (Booked (Granted f g b)) = ⊥
 WritesNoRow (Booked (Settled g b n)) = ⊥
 WritesNoRow (Booked (Expired g b)) = ⊥
-WritesNoRow (Booked (Reported r)) = Unit {0}
+WritesNoRow _ = Unit {0}
 
 pub record WritesNone (e : SlotEvent) : Type 0 where
   pub no_grant : booked is_grant e ≡ 0
@@ -66,14 +60,10 @@ pub record WritesNone (e : SlotEvent) : Type 0 where
   pub booked_same : (n : Booking → ℕ) → ((r : Rattle.stream_calls.specs.declared.reporting.Feedback.Feedback) → n (Reported r) ≡ 0) → (es : List SlotEvent) → sum_of (booked n) (e ∷ es) ≡ sum_of (booked n) es
 
 pub writes_none : (e : SlotEvent) → WritesNoRow e → WritesNone e
-writes_none (Opened f w) _ = record { no_grant = refl; no_end = λ g. refl; granted_same = λ es. refl; ended_same = λ es. refl; booked_same = λ n z es. omega arith }
-writes_none (Moved f) _ = record { no_grant = refl; no_end = λ g. refl; granted_same = λ es. refl; ended_same = λ es. refl; booked_same = λ n z es. omega arith }
-writes_none Closed _ = record { no_grant = refl; no_end = λ g. refl; granted_same = λ es. refl; ended_same = λ es. refl; booked_same = λ n z es. omega arith }
-writes_none Requested _ = record { no_grant = refl; no_end = λ g. refl; granted_same = λ es. refl; ended_same = λ es. refl; booked_same = λ n z es. omega arith }
 writes_none (Booked (Granted f g b)) x = absurd x
 writes_none (Booked (Settled g b n)) x = absurd x
 writes_none (Booked (Expired g b)) x = absurd x
-writes_none (Booked (Reported r)) _ = record { no_grant = refl; no_end = λ g. refl; granted_same = λ es. omega arith; ended_same = λ es. omega arith; booked_same = λ n z es. omega (arith, z r) }
+writes_none _ _ = search arith
 
 pub same_at : (h : History) (t i : ℕ) (e : SlotEvent) → WritesNoRow e → SameBooks h (AtSlot t i e ∷ h)
 same_at h t i e quiet =
@@ -81,16 +71,16 @@ same_at h t i e quiet =
     record {
       issued_same = omega (arith, W.no_grant);
       ends_same = λ g. omega (arith, W.no_end g);
-      granted_same = λ j. at_or_off i j (λ c x. granted (cond c (e ∷ of_slot h x) (of_slot h x)) ≡ granted (of_slot h x)) (W.granted_same (of_slot h i)) (λ _. refl);
-      ended_same = λ j. at_or_off i j (λ c x. ended (cond c (e ∷ of_slot h x) (of_slot h x)) ≡ ended (of_slot h x)) (W.ended_same (of_slot h i)) (λ _. refl);
-      booked_same = λ n z j. at_or_off i j (λ c x. sum_of (booked n) (cond c (e ∷ of_slot h x) (of_slot h x)) ≡ sum_of (booked n) (of_slot h x)) (W.booked_same n z (of_slot h i)) (λ _. refl);
+      granted_same = λ j. event_cases h t i j e (λ _ x es. granted es ≡ granted (of_slot h x)) (W.granted_same (of_slot h i)) (λ _. refl);
+      ended_same = λ j. event_cases h t i j e (λ _ x es. ended es ≡ ended (of_slot h x)) (W.ended_same (of_slot h i)) (λ _. refl);
+      booked_same = λ n z j. event_cases h t i j e (λ _ x es. sum_of (booked n) es ≡ sum_of (booked n) (of_slot h x)) (W.booked_same n z (of_slot h i)) (λ _. refl);
     }
 
 pub same_nothing : (h : History) → SameBooks h (Nothing ∷ h)
-same_nothing h = record { issued_same = refl; ends_same = λ g. refl; granted_same = λ j. refl; ended_same = λ j. refl; booked_same = λ n z j. refl }
+same_nothing h = search arith
 
 pub same_passed : (h : History) (t : ℕ) → SameBooks h (Passed t ∷ h)
-same_passed h t = record { issued_same = refl; ends_same = λ g. refl; granted_same = λ j. refl; ended_same = λ j. refl; booked_same = λ n z j. refl }
+same_passed h t = search arith
 
 pub same_merged : (h : History) (t a b : ℕ) → SameBooks h (Merged t a b ∷ h)
 same_merged h t a b =
@@ -98,14 +88,10 @@ same_merged h t a b =
     record {
       issued_same = refl;
       ends_same = λ g. refl;
-      granted_same = λ j. by_test (is_in h a j) (λ c. granted (cond c (Moved b ∷ of_slot h j) (of_slot h j)) ≡ granted (of_slot h j)) (λ _. refl) (λ _. refl);
-      ended_same = λ j. by_test (is_in h a j) (λ c. ended (cond c (Moved b ∷ of_slot h j) (of_slot h j)) ≡ ended (of_slot h j)) (λ _. refl) (λ _. refl);
-      booked_same = λ n z j. by_test (is_in h a j) (λ c. sum_of (booked n) (cond c (Moved b ∷ of_slot h j) (of_slot h j)) ≡ sum_of (booked n) (of_slot h j)) (λ _. W.booked_same n z (of_slot h j)) (λ _. refl);
+      granted_same = λ j. cond_both (is_in h a j) _ _ (λ es. granted es ≡ granted (of_slot h j)) (λ _. refl) (λ _. refl);
+      ended_same = λ j. cond_both (is_in h a j) _ _ (λ es. ended es ≡ ended (of_slot h j)) (λ _. refl) (λ _. refl);
+      booked_same = λ n z j. cond_both (is_in h a j) _ _ (λ es. sum_of (booked n) es ≡ sum_of (booked n) (of_slot h j)) (λ _. W.booked_same n z (of_slot h j)) (λ _. refl);
     }
-
-cond_same : {X : Type 0} (b : Bool) (x y : X) → y ≡ x → cond b y x ≡ x
-cond_same true x y e = e
-cond_same false x y e = refl
 
 module _ {C S : Type 0} (H : Host C S) where
   abbrev pub controller_of : History → ℕ → C
@@ -132,7 +118,7 @@ module _ {C S : Type 0} (H : Host C S) where
 
   -- the controllers are told nothing but reports
   pub controller_still : (h : History) (t i : ℕ) (e : SlotEvent) (f : ℕ) → ((n : ℕ) (c : C) → told H.control t n c e ≡ c) → controller_of (AtSlot t i e ∷ h) f ≡ controller_of h f
-  controller_still h t i e f quiet = cond_same (is_in h f i) (controller_of h f) _ (quiet (flight h f) (controller_of h f))
+  controller_still h t i e f quiet = cond_both (is_in h f i) _ _ (λ c. c ≡ controller_of h f) (λ _. quiet (flight h f) (controller_of h f)) (λ _. refl)
 
   -- who waits is told to the schedulers
   pub scheduler_still : (h : History) (e : Effect) (f : ℕ) → picked H.scheduling f (scheduler_of h f) e ≡ scheduler_of h f → ((i : ℕ) → i < 32 → waits_in h f i ≡ waits_in (e ∷ h) f i) → scheduler_of (e ∷ h) f ≡ scheduler_of h f
@@ -144,7 +130,7 @@ module _ {C S : Type 0} (H : Host C S) where
   scheduler_at h t i e f s r near old new =
       let d = H.scheduling in
       let h' : History = AtSlot t i e ∷ h in
-      let own : of_slot h' i ≡ e ∷ of_slot h i = ap (λ c. cond c (e ∷ of_slot h i) (of_slot h i)) (eq-eqb i i refl) in
+      let own : of_slot h' i ≡ e ∷ of_slot h i = cond-true _ _ _ (eq-eqb i i refl) in
       let now : waits_in h' f i ≡ stream.waits_in r f = ap (λ es. open_in f es && waits es) own ∙ sym (waits_is new f) in
       let weighs : weight (of_slot h' i) ≡ r.weight = ap weight own ∙ sym new.weight_is in
       changed_one d i 32 (waits_in h f) (waits_in h' f) (λ j. weight (of_slot h' j)) (picked_at d f (scheduler_of h f) e) near
@@ -154,18 +140,9 @@ module _ {C S : Type 0} (H : Host C S) where
 
   module _ (laws : SchedulingLaws 32 H.scheduling) where
     pub picked_keeps : (f : ℕ) (s : S) (e : Effect) (i : ℕ) → H.scheduling.waits (picked H.scheduling f s e) i ≡ H.scheduling.waits s i
-    picked_keeps f s Nothing i = refl
-    picked_keeps f s (Passed t) i = refl
-    picked_keeps f s (AtSlot t k (Opened a w)) i = refl
-    picked_keeps f s (AtSlot t k (Moved a)) i = refl
-    picked_keeps f s (AtSlot t k Closed) i = refl
-    picked_keeps f s (AtSlot t k Requested) i = refl
     picked_keeps f s (AtSlot t k (Booked (Granted a g b))) i =
-        by_test (eqb a f) (λ c. H.scheduling.waits (cond c (H.scheduling.turned s) s) i ≡ H.scheduling.waits s i) (λ _. laws.pick_keeps s i) (λ _. refl)
-    picked_keeps f s (AtSlot t k (Booked (Settled g b n))) i = refl
-    picked_keeps f s (AtSlot t k (Booked (Expired g b))) i = refl
-    picked_keeps f s (AtSlot t k (Booked (Reported b))) i = refl
-    picked_keeps f s (Merged t a b) i = refl
+        cond_both (eqb a f) _ _ (λ x. H.scheduling.waits x i ≡ H.scheduling.waits s i) (λ _. laws.pick_keeps s i) (λ _. refl)
+    picked_keeps f s _ i = refl
 
     -- each scheduler has those waiting who wait, with one call more
     pub waiting_more : {F : ℕ} {xs : List Stream} (h : History) (e : Effect) (old-far : (i : ℕ) → 32 ≤ i → of_slot h i ≡ []) → StreamsKept F (e ∷ h) xs
@@ -174,13 +151,15 @@ module _ {C S : Type 0} (H : Host C S) where
     waiting_more h e old-far K f before i =
         let d = H.scheduling in
         let now = waits_in (e ∷ h) f in
+        -- where nothing happened, nobody waits
+        let never : (h' : History) (j : ℕ) → of_slot h' j ≡ [] → waits_in h' f j ≡ false = λ h' j none. ap (λ es. open_in f es && waits es) none in
         let weights : (j : ℕ) → now j ≡ true → (1 ≤ weight (of_slot (e ∷ h) j)) × (weight (of_slot (e ∷ h) j) ≤ 8) = λ j on.
         ⊎_elim
         (λ (l : j < 32). let p = (K.slots j l).placed (and_parts _ _ (and_parts _ _ on).0).0 in (p.1, p.2))
-        (λ (l : 32 ≤ j). absurd (true≢false (sym on ∙ ap (λ es. open_in f es && waits es) (K.far j l))))
+        (λ (l : 32 ≤ j). absurd (true≢false (sym on ∙ never (e ∷ h) j (K.far j l))))
         (cases_lt j 32) in
         waits_changed d laws 32 (waits_in h f) now (λ j. weight (of_slot (e ∷ h) j)) (picked d f (scheduler_of h f) e) (omega arith) (λ j. picked_keeps f (scheduler_of h f) e j ∙ before j) weights i
         ∙ ⊎_elim
-        (λ (l : i < 32). ap (λ c. cond c (now i) (waits_in h f i)) (lt-ltb i 32 l))
-        (λ (l : 32 ≤ i). ap (λ c. cond c (now i) (waits_in h f i)) (le-ltb i 32 l) ∙ ap (λ es. open_in f es && waits es) (old-far i l) ∙ sym (ap (λ es. open_in f es && waits es) (K.far i l)))
+        (λ (l : i < 32). cond-true _ _ _ (lt-ltb i 32 l))
+        (λ (l : 32 ≤ i). cond-false _ _ _ (le-ltb i 32 l) ∙ never h i (old-far i l) ∙ sym (never (e ∷ h) i (K.far i l)))
         (cases_lt i 32)

@@ -1,9 +1,15 @@
 -- The law stands over every run.
+--   since                  what is so of m, and stays so with one more, is so of every number from m on
 --   held_next, answer_is   each call finds all as the last left it
+--   at_step                what is so of a call's answer and of what it leaves is so in the run
 --   kept_all               at every moment what is held is what the history tells
-use Rattle.std.proofs.Common.{◌≡◌, ℕ, zero, suc, ◌+◌, ◌<◌, ◌≤◌, Bool, true, false, cond, not, ◌&&◌, eqb, leb, List, [], ◌∷◌, length, get_or, take, Some, None, sym, refl, ap, ◌∙◌, subst, ⊎_elim, arith}
+--   lawful                 all of it
+use Rattle.std.proofs.Common.{◌≡◌, ℕ, zero, suc, ◌+◌, ◌<◌, ◌≤◌, Bool, true, false, not, ◌&&◌, eqb, leb, List, [], ◌∷◌, length, get_or, take, Some, sym, refl, ap, ◌∙◌, subst, ⊎_elim, arith, Ok, Err}
 use Rattle.std.proofs.lemmas.List.{length-replicate, get_or-replicate, get_or_default}
-use Rattle.std.proofs.lemmas.Bool.{leb-true, eqb-true, eq-eqb, and_parts, not-true, cases_lt, cases_Bool, true≢false, cases_eq}
+use Rattle.std.proofs.lemmas.List.Elements.{All-get_or}
+use Rattle.std.proofs.lemmas.List.Sums.{AllPass-from_list_all}
+use Rattle.std.proofs.lemmas.Bool.{leb-true, eqb-true, eq-eqb, and_parts, not-true, cases_lt, true≢false, cases_eq, cond_both, false_from_ne_true}
+use Rattle.meaning.specs.Refusals.{number}
 use Rattle.meaning.specs.Below.{all_below}
 use Rattle.meaning.specs.Control.{Control, ControlLaws}
 use Rattle.meaning.specs.Scheduling.{Scheduling, SchedulingLaws}
@@ -12,21 +18,19 @@ use Rattle.tables.specs.Streams.{no_stream}
 use Rattle.grant_calls.specs.declared.polling.Polled.TheVariants as poll
 use Rattle.manager.specs.declared.call.Call.{Call}
 use Rattle.manager.specs.declared.call.Call.TheVariants.{Open, Request, Poll, TakeUp, Settle, Expire, Report, Move, Merge, Close}
-use Rattle.manager.specs.declared.call.Answer.{Answer}
-use Rattle.manager.specs.declared.call.Answer.TheVariants as answer
+use Rattle.manager.specs.Answers.{Answer}
+use Rattle.manager.specs.declared.call.Told.TheVariants as told
 use Rattle.manager.specs.State.{State}
 use Rattle.manager.specs.Steps.{step, after, answers}
-use Rattle.manager.specs.Making.{is_ready}
-use Rattle.law.specs.Effects.{SlotEvent, Effect, effect, unless_refused, slot_of, bytes_of}
-use Rattle.law.specs.Effects.Booking.{Settled, Reported}
-use Rattle.law.specs.Effects.SlotEvent.{Opened, Moved, Closed, Requested, Booked}
-use Rattle.law.specs.Effects.Effect.{Nothing, Passed, AtSlot, Merged}
+use Rattle.manager.specs.Making.{is_idle, is_ready}
+use Rattle.law.specs.Effects.{SlotEvent, Effect, effect, slot_of, bytes_of}
+use Rattle.law.specs.Effects.SlotEvent.{Booked}
+use Rattle.law.specs.Effects.Effect.{AtSlot, Merged}
 use Rattle.law.specs.Slots.{charged, received, lost, abandoned, outstanding, grants}
 use Rattle.law.specs.History.{History, of_slot, is_in, waits_in, issued, ends, grants_to, grants_in}
 use Rattle.law.specs.Law as law
 use Rattle.law.specs.Law.{Run, call, so_far, IsCall, IsMoment}
 use Rattle.law.specs.Runs.{Lent, start, run_of}
-use Rattle.law.proofs.Ways.{by_test}
 use Rattle.law.proofs.SlotFacts.{SlotKept, outstanding_is, kept_none}
 use Rattle.law.proofs.Ledger.{ledger_none}
 use Rattle.law.proofs.Kept.{Host, controller_of, scheduler_of, Kept}
@@ -46,6 +50,11 @@ all_at zero p e i l = absurd (omega arith)
 all_at (suc n) p e i l =
     let parts = and_parts (all_below n p) (p n) e in
     ⊎_elim (λ (q : i ≡ n). ap p q ∙ parts.1) (λ (q : i ≡ n → ⊥). all_at n p parts.0 i (omega arith)) (cases_eq i n)
+
+since : (m : ℕ) (P : ℕ → Type 0) → P m → ((n : ℕ) → m ≤ n → P n → P (suc n)) → (n : ℕ) → m ≤ n → P n
+since m P start more zero le = let same : m ≡ 0 = omega arith in subst P same start
+since m P start more (suc n) le =
+    ⊎_elim (λ (same : m ≡ suc n). subst P same start) (λ (ne : m ≡ suc n → ⊥). let l : m ≤ n = omega arith in more n l (since m P start more n l)) (cases_eq m (suc n))
 
 -- one call more of a list
 module _ {C S : Type 0} (k : Control C) (d : Scheduling S) where
@@ -72,66 +81,33 @@ module _ {C S : Type 0} (H : Host C S) (c-laws : ControlLaws H.control) (laws : 
   next (Merge t a b) = next_merge H laws h s K t a b
   next (Close t i) = next_close H laws h s K t i
 
-  unless_picks : (a : Answer) (e : Effect) → Picks H h e → Picks H h (unless_refused a e)
-  unless_picks answer.Done e p = p
-  unless_picks (answer.Polled x) e p = p
-  unless_picks (answer.TakenUp g) e p = p
-  unless_picks (answer.Expired o) e p = p
-  unless_picks (answer.Refused r) e p = tt
-
-  poll_effect_picks : (t f : ℕ) (rows : List Row) (a : Answer) → ((g : ℕ) → a ≡ answer.Polled (poll.Granted g) → H.scheduling.chosen (scheduler_of H h f) ≡ Some (slot_of rows g)) → Picks H h (effect rows (Poll t f) a)
-  poll_effect_picks t f rows (answer.Polled (poll.Granted g)) p = p g refl
-  poll_effect_picks t f rows (answer.Polled poll.NoFit) p = tt
-  poll_effect_picks t f rows (answer.Polled poll.NoneWaits) p = tt
-  poll_effect_picks t f rows answer.Done p = tt
-  poll_effect_picks t f rows (answer.TakenUp g) p = tt
-  poll_effect_picks t f rows (answer.Expired o) p = tt
-  poll_effect_picks t f rows (answer.Refused r) p = tt
-
-  expire_effect_picks : (t : ℕ) (rows : List Row) (a : Answer) → Picks H h (effect rows (Expire t) a)
-  expire_effect_picks t rows (answer.Expired (Some g)) = tt
-  expire_effect_picks t rows (answer.Expired None) = tt
-  expire_effect_picks t rows answer.Done = tt
-  expire_effect_picks t rows (answer.Polled p) = tt
-  expire_effect_picks t rows (answer.TakenUp g) = tt
-  expire_effect_picks t rows (answer.Refused r) = tt
-
   abbrev done : Call → Rattle.manager.specs.Steps.Stepped C S
   done c = step H.control H.scheduling s c
 
+  effect_picks : (c : Call) (rows : List Row) (a : Answer) → ((t f g : ℕ) → c ≡ Poll t f → a ≡ Ok (told.Polled (poll.Granted g)) → H.scheduling.chosen (scheduler_of H h f) ≡ Some (slot_of rows g)) → Picks H h (effect rows c a)
+  effect_picks (Poll t f) rows (Ok (told.Polled (poll.Granted g))) p = p t f g refl refl
+  effect_picks (Expire t) rows (Ok (told.Expired (Some g))) p = tt
+  effect_picks _ rows (Err r) p = tt
+  effect_picks _ rows _ p = tt
+
   picks : (c : Call) → Picks H h (effect (done c).state.rows c (done c).answer)
-  picks (Open t i f w l) = unless_picks (done (Open t i f w l)).answer (AtSlot t i (Opened f w)) tt
-  picks (Request t i) = unless_picks (done (Request t i)).answer (AtSlot t i Requested) tt
-  picks (Poll t f) = poll_effect_picks t f (done (Poll t f)).state.rows (done (Poll t f)).answer (λ g e. (poll_picks H c-laws laws few h s K t f g e).2)
-  picks (TakeUp t g) = unless_picks (done (TakeUp t g)).answer (Passed t) tt
-  picks (Settle t g n) =
-      let rows = (done (Settle t g n)).state.rows in
-      unless_picks (done (Settle t g n)).answer (AtSlot t (slot_of rows g) (Booked (Settled g (bytes_of rows g) n))) tt
-  picks (Expire t) = expire_effect_picks t (done (Expire t)).state.rows (done (Expire t)).answer
-  picks (Report t i b) = unless_picks (done (Report t i b)).answer (AtSlot t i (Booked (Reported b))) tt
-  picks (Move t i f) = unless_picks (done (Move t i f)).answer (AtSlot t i (Moved f)) tt
-  picks (Merge t a b) = unless_picks (done (Merge t a b)).answer (Merged t a b) tt
-  picks (Close t i) = unless_picks (done (Close t i)).answer (AtSlot t i Closed) tt
+  picks c =
+      effect_picks c (done c).state.rows (done c).answer
+      (λ t f g e. subst (λ x. (done x).answer ≡ Ok (told.Polled (poll.Granted g)) → H.scheduling.chosen (scheduler_of H h f) ≡ Some (slot_of (done x).state.rows g)) (sym e) (λ a. (poll_picks H c-laws laws few h s K t f g a).2))
 
 -- what has ended stays so, and what was granted too
 ends_grow : (e : Effect) (h : History) (g : ℕ) → ends h g ≤ ends (e ∷ h) g
-ends_grow Nothing h g = omega arith
-ends_grow (Passed t) h g = omega arith
 ends_grow (AtSlot t i e) h g = omega arith
-ends_grow (Merged t a b) h g = omega arith
+ends_grow _ h g = omega arith
 
 event_grants : (e : SlotEvent) (es : List SlotEvent) → grants es ≤ grants (e ∷ es)
-event_grants (Opened f w) es = omega arith
-event_grants (Moved f) es = omega arith
-event_grants Closed es = omega arith
-event_grants Requested es = omega arith
 event_grants (Booked b) es = omega arith
+event_grants _ es = omega arith
 
 grants_grow : (e : Effect) (h : History) (i : ℕ) → grants_to h i ≤ grants_to (e ∷ h) i
-grants_grow Nothing h i = omega arith
-grants_grow (Passed t) h i = omega arith
-grants_grow (AtSlot t j e) h i = by_test (eqb j i) (λ c. grants (of_slot h i) ≤ grants (cond c (e ∷ of_slot h i) (of_slot h i))) (λ _. event_grants e (of_slot h i)) (λ _. omega arith)
-grants_grow (Merged t a b) h i = by_test (is_in h a i) (λ c. grants (of_slot h i) ≤ grants (cond c (Moved b ∷ of_slot h i) (of_slot h i))) (λ _. omega arith) (λ _. omega arith)
+grants_grow (AtSlot t j e) h i = cond_both (eqb j i) _ _ (λ es. grants (of_slot h i) ≤ grants es) (λ _. event_grants e (of_slot h i)) (λ _. omega arith)
+grants_grow (Merged t a b) h i = cond_both (is_in h a i) _ _ (λ es. grants (of_slot h i) ≤ grants es) (λ _. omega arith) (λ _. omega arith)
+grants_grow _ h i = omega arith
 
 module _ {C S : Type 0} (k : Control C) (d : Scheduling S) (c-laws : ControlLaws k) (laws : SchedulingLaws 32 d)
     (F : ℕ) (L : Lent C S) (ready : is_ready d F (length L.controllers) L.schedulers (length L.rows) ≡ true)
@@ -171,8 +147,8 @@ module _ {C S : Type 0} (k : Control C) (d : Scheduling S) (c-laws : ControlLaws
         idle = λ f i l.
             let x = get_or ss f d.spare in
             ⊎_elim
-            (λ (near : i < 32). not-true _ (all_at 32 (λ j. not (d.waits x j)) (all_at (length ss) (λ g. all_below 32 (λ j. not (d.waits (get_or ss g d.spare) j))) three.1 f (omega arith)) i near))
-            (λ (far : 32 ≤ i). ⊎_elim (λ (on : d.waits x i ≡ true). absurd (let near : i < 32 = laws.waits_below x i on in omega arith)) (λ (off : d.waits x i ≡ false). off) (cases_Bool (d.waits x i)))
+            (λ (near : i < 32). not-true _ (all_at 32 (λ j. not (d.waits x j)) (All-get_or (λ y. is_idle d y ≡ true) ss f d.spare (omega arith) (AllPass-from_list_all (is_idle d) ss three.1)) i near))
+            (λ (far : 32 ≤ i). false_from_ne_true _ (λ on. let near = laws.waits_below x i on in omega arith))
             (cases_lt i 32);
       }
 
@@ -183,7 +159,10 @@ module _ {C S : Type 0} (k : Control C) (d : Scheduling S) (c-laws : ControlLaws
   held_next n l = after_more k d (start F L) calls n (Expire 0) l
 
   answer_is : (n : ℕ) → IsCall r n → law.answer r n ≡ (step k d (r.held n) (call r n)).answer
-  answer_is n l = ap (λ xs. get_or xs n answer.Done) right ∙ answer_at k d (start F L) calls n (Expire 0) answer.Done l
+  answer_is n l = ap (λ xs. get_or xs n (Ok told.Done)) right ∙ answer_at k d (start F L) calls n (Expire 0) (Ok told.Done) l
+
+  at_step : (n : ℕ) → IsCall r n → (P : State C S → Answer → Type 0) → P (step k d (r.held n) (call r n)).state (step k d (r.held n) (call r n)).answer → P (r.held (suc n)) (law.answer r n)
+  at_step n l P p = subst (P (r.held (suc n))) (sym (answer_is n l)) (subst (λ s. P s (step k d (r.held n) (call r n)).answer) (sym (held_next n l)) p)
 
   kept_start : Kept H [] (start F L)
   kept_start = record {
@@ -206,8 +185,7 @@ module _ {C S : Type 0} (k : Control C) (d : Scheduling S) (c-laws : ControlLaws
   kept_all (suc n) l =
       let is_call : IsCall r n = omega arith in
       let K = kept_all n (omega arith) in
-      subst (λ a. Kept H (effect (r.held (suc n)).rows (call r n) a ∷ so_far r n) (r.held (suc n))) (sym (answer_is n is_call))
-      (subst (λ s. Kept H (effect s.rows (call r n) (step k d (r.held n) (call r n)).answer ∷ so_far r n) s) (sym (held_next n is_call)) (next H c-laws laws few (so_far r n) (r.held n) K (call r n)))
+      at_step n is_call (λ s a. Kept H (effect s.rows (call r n) a ∷ so_far r n) s) (next H c-laws laws few (so_far r n) (r.held n) K (call r n))
 
   polls_issue_exactly : law.PollsIssueExactly k r
   polls_issue_exactly n t f l e =
@@ -233,32 +211,24 @@ module _ {C S : Type 0} (k : Control C) (d : Scheduling S) (c-laws : ControlLaws
   grants_end_once : law.GrantsEndOnce r
   grants_end_once n g l =
       let K = kept_all n l in
-      ⊎_elim
-      (λ (m : g < issued (so_far r n)). omega (arith, (K.ledger.grants g m).once))
-      (λ (m : issued (so_far r n) ≤ g). omega (arith, (K.ledger.unissued g m).0))
-      (cases_lt g (issued (so_far r n)))
+      grind (arith, cases_lt g (issued (so_far r n)), λ (m : g < issued (so_far r n)). (K.ledger.grants g m).once, K.ledger.unissued g)
 
   -- from the moment m on
-  stays_from : (m n g : ℕ) (x : Row) → m ≤ n → IsMoment r n → ends (so_far r m) g ≡ 1
-      → (get_or (r.held n).rows g x ≡ get_or (r.held m).rows g x) × (ends (so_far r n) g ≡ 1)
-  stays_from m zero g x le l over =
-      let same : m ≡ 0 = omega arith in
-      subst (λ j. (get_or (r.held 0).rows g x ≡ get_or (r.held j).rows g x) × (ends (so_far r 0) g ≡ 1)) (sym same) (refl, subst (λ j. ends (so_far r j) g ≡ 1) same over)
-  stays_from m (suc n) g x le l over =
-      ⊎_elim
-      (λ (same : m ≡ suc n). subst (λ j. (get_or (r.held (suc n)).rows g x ≡ get_or (r.held j).rows g x) × (ends (so_far r (suc n)) g ≡ 1)) (sym same) (refl, subst (λ j. ends (so_far r j) g ≡ 1) same over))
-      (λ (ne : m ≡ suc n → ⊥).
-      let before = stays_from m n g x (omega arith) (omega arith) over in
+  stays_from : (m g : ℕ) (x : Row) → ends (so_far r m) g ≡ 1 → (n : ℕ) → m ≤ n
+      → IsMoment r n → (get_or (r.held n).rows g x ≡ get_or (r.held m).rows g x) × (ends (so_far r n) g ≡ 1)
+  stays_from m g x over =
+      since m (λ n. IsMoment r n → (get_or (r.held n).rows g x ≡ get_or (r.held m).rows g x) × (ends (so_far r n) g ≡ 1)) (λ l. (refl, over))
+      (λ n le then l.
+      let before = then (omega arith) in
       let is_call : IsCall r n = omega arith in
       let K = kept_all n (omega arith) in
       let row_same = row_stays H laws (so_far r n) (r.held n) K g before.1 x (call r n) in
       let grown = ends_grow (effect (r.held (suc n)).rows (call r n) (law.answer r n)) (so_far r n) g in
       let most = grants_end_once (suc n) g l in
       (ap (λ (s : State C S). get_or s.rows g x) (held_next n is_call) ∙ row_same ∙ before.0, omega (arith, before.1)))
-      (cases_eq m (suc n))
 
   rows_stay : law.RowsStay r
-  rows_stay m n g x le l over = (stays_from m n g x le l over).0
+  rows_stay m n g x le l over = (stays_from m g x over n le l).0
 
   books_balance : law.BooksBalance r
   books_balance n i l =
@@ -268,13 +238,7 @@ module _ {C S : Type 0} (k : Control C) (d : Scheduling S) (c-laws : ControlLaws
         ⊎_elim
             (λ (near : i < 32).
             let old = K.streams.slots i near in
-            let balance = old.balance in
-            let a = old.charged_is in
-            let b = old.received_is in
-            let c = old.lost_is in
-            let d = old.abandoned_is in
-            let e = outstanding_is old in
-            omega arith)
+            omega (arith, old.balance, old.charged_is, old.received_is, old.lost_is, old.abandoned_is, outstanding_is old))
             (λ (far : 32 ≤ i). ap (λ es. charged es) (K.streams.far i far) ∙ sym (ap (λ es. received es + lost es + abandoned es + outstanding es) (K.streams.far i far)))
             (cases_lt i 32),
       )
@@ -285,84 +249,64 @@ module _ {C S : Type 0} (k : Control C) (d : Scheduling S) (c-laws : ControlLaws
       let old = K.streams.slots i near in
       let s = r.held n in
       subst (λ y. law.Tells r y (so_far r n) i) (get_or_default s.core.streams i no_stream x (omega (arith, K.streams.many)))
-      (record {
-        opened = old.opened_is;
-        macroflow = old.macroflow_is;
-        waiting = old.waiting_is;
-        reserved = reserved_is H c-laws laws few (so_far r n) s K i near;
-        outstanding = outstanding_is old;
-        charged = old.charged_is;
-        received = old.received_is;
-        lost = old.lost_is;
-        abandoned = old.abandoned_is;
-      })
+      (search (old, reserved_is H c-laws laws few (so_far r n) s K i near, outstanding_is old))
 
   tables_are_sound : law.TablesAreSound r
   tables_are_sound n e l a one =
       let K = kept_all n (omega arith) in
       let none = even H c-laws laws few (so_far r n) (r.held n) K (call r n) in
-      true≢false (sym (eq-eqb e.number 1 one) ∙ sym (ap is_one a) ∙ ap is_one (answer_is n l) ∙ none)
+      true≢false (sym (eq-eqb (number e.reason) 1 (ap number one)) ∙ sym (ap is_one a) ∙ ap is_one (answer_is n l) ∙ none)
 
   refusals_change_nothing : law.RefusalsChangeNothing r
   refusals_change_nothing n e l a = held_next n l ∙ refused_same H (r.held n) (call r n) (sym (ap is_refused (answer_is n l)) ∙ ap is_refused a)
 
-  grants_since : (m n i : ℕ) → m ≤ n → grants_to (so_far r m) i ≤ grants_to (so_far r n) i
-  grants_since m zero i le = let same : m ≡ 0 = omega arith in subst (λ j. grants_to (so_far r j) i ≤ 0) (sym same) (omega arith)
-  grants_since m (suc n) i le =
-      ⊎_elim
-      (λ (same : m ≡ suc n). subst (λ j. grants_to (so_far r j) i ≤ grants_to (so_far r (suc n)) i) (sym same) (omega arith))
-      (λ (ne : m ≡ suc n → ⊥). omega (arith, grants_since m n i (omega arith), grants_grow (effect (r.held (suc n)).rows (call r n) (law.answer r n)) (so_far r n) i))
-      (cases_eq m (suc n))
+  grants_since : (m i n : ℕ) → m ≤ n → grants_to (so_far r m) i ≤ grants_to (so_far r n) i
+  grants_since m i =
+      since m (λ n. grants_to (so_far r m) i ≤ grants_to (so_far r n) i) (omega arith)
+      (λ n le before. omega (arith, before, grants_grow (effect (r.held (suc n)).rows (call r n) (law.answer r n)) (so_far r n) i))
 
   -- patience and grants together do not grow through the stretch
-  patient_through : (m n f i : ℕ) → m ≤ n → IsMoment r n → f < F
+  patient_through : (m f i : ℕ) → f < F → (n : ℕ) → m ≤ n → IsMoment r n
       → ((x : ℕ) → m ≤ x → x ≤ n → waits_in (so_far r x) f i ≡ true)
       → grants_to (so_far r n) i ≡ grants_to (so_far r m) i
       → d.patience (scheduler_of H (so_far r n) f) i + grants_in (so_far r n) f ≤ d.patience (scheduler_of H (so_far r m) f) i + grants_in (so_far r m) f
-  patient_through m zero f i le l there waits none =
-      let same : m ≡ 0 = omega arith in
-      subst (λ j. d.patience (scheduler_of H (so_far r 0) f) i + grants_in (so_far r 0) f ≤ d.patience (scheduler_of H (so_far r j) f) i + grants_in (so_far r j) f) (sym same) (omega arith)
-  patient_through m (suc n) f i le l there waits none =
-      ⊎_elim
-      (λ (same : m ≡ suc n). subst (λ j. d.patience (scheduler_of H (so_far r (suc n)) f) i + grants_in (so_far r (suc n)) f ≤ d.patience (scheduler_of H (so_far r j) f) i + grants_in (so_far r j) f) (sym same) (omega arith))
-      (λ (ne : m ≡ suc n → ⊥).
+  patient_through m f i there =
+      since m
+      (λ n. IsMoment r n → ((x : ℕ) → m ≤ x → x ≤ n → waits_in (so_far r x) f i ≡ true) → grants_to (so_far r n) i ≡ grants_to (so_far r m) i
+      → d.patience (scheduler_of H (so_far r n) f) i + grants_in (so_far r n) f ≤ d.patience (scheduler_of H (so_far r m) f) i + grants_in (so_far r m) f)
+      (λ l waits none. omega arith)
+      (λ n le then l waits none.
       let h = so_far r n in
       let e = effect (r.held (suc n)).rows (call r n) (law.answer r n) in
       let is_call : IsCall r n = omega arith in
       let K = kept_all n (omega arith) in
       let grown = grants_grow e h i in
-      let since = grants_since m n i (omega arith) in
+      let more = grants_since m i n le in
       let still : grants_to h i ≡ grants_to (so_far r m) i = omega arith in
-      let before = patient_through m n f i (omega arith) (omega arith) there (λ x a b. waits x a (omega arith)) still in
-      let fair : Picks H h e =
-      subst (λ a. Picks H h (effect (r.held (suc n)).rows (call r n) a)) (sym (answer_is n is_call))
-      (subst (λ (s : State C S). Picks H h (effect s.rows (call r n) (step k d (r.held n) (call r n)).answer)) (sym (held_next n is_call)) (picks H c-laws laws few h (r.held n) K (call r n))) in
-      let one = patient H laws h e f i fair (K.waiting f i there) (waits n (omega arith) (omega arith)) (waits (suc n) le (omega arith)) (omega arith) in
+      let before = then (omega arith) (λ x a b. waits x a (omega arith)) still in
+      let fair : Picks H h e = at_step n is_call (λ s a. Picks H h (effect s.rows (call r n) a)) (picks H c-laws laws few h (r.held n) K (call r n)) in
+      let one = patient H laws h e f i fair (K.waiting f i there) (waits n le (omega arith)) (waits (suc n) (omega arith) (omega arith)) (omega arith) in
       omega arith)
-      (cases_eq m (suc n))
 
   waits_are_bounded : law.WaitsAreBounded d r
   waits_are_bounded m n f i le l there waits none =
       let h = so_far r m in
-      let through = patient_through m n f i le l there waits none in
+      let through = patient_through m f i there n le l waits none in
       let K = kept_all m (omega arith) in
       let most = laws.bounded (scheduler_of H h f) i (K.waiting f i there ∙ waits m (omega arith) le) in
       omega (arith, bound_same H laws h f)
 
--- all of it
-pub lawful : {C S : Type 0} (k : Control C) (d : Scheduling S) → ControlLaws k → SchedulingLaws 32 d
-    → (F : ℕ) (L : Lent C S) → is_ready d F (length L.controllers) L.schedulers (length L.rows) ≡ true
-    → (calls : List Call) (given : List Answer) → given ≡ answers k d (start F L) calls → law.Promises k d (run_of k d F L calls given)
-lawful k d c-laws laws F L ready calls given right = record {
-  polls_exactly = polls_issue_exactly k d c-laws laws F L ready calls given right;
-  packet_fits = one_packet_fits k d c-laws laws F L ready calls given right;
-  picks = grants_go_to_the_pick k d c-laws laws F L ready calls given right;
-  bounded = waits_are_bounded k d c-laws laws F L ready calls given right;
-  ends_once = grants_end_once k d c-laws laws F L ready calls given right;
-  rows_stay = rows_stay k d c-laws laws F L ready calls given right;
-  balances = books_balance k d c-laws laws F L ready calls given right;
-  records = records_agree k d c-laws laws F L ready calls given right;
-  parts = parts_are_told k d c-laws laws F L ready calls given right;
-  sound = tables_are_sound k d c-laws laws F L ready calls given right;
-  refusals = refusals_change_nothing k d c-laws laws F L ready calls given right;
-}
+  pub lawful : law.Promises k d r
+  lawful = record {
+    polls_exactly = polls_issue_exactly;
+    packet_fits = one_packet_fits;
+    picks = grants_go_to_the_pick;
+    bounded = waits_are_bounded;
+    ends_once = grants_end_once;
+    rows_stay = rows_stay;
+    balances = books_balance;
+    records = records_agree;
+    parts = parts_are_told;
+    sound = tables_are_sound;
+    refusals = refusals_change_nothing;
+  }

@@ -1,25 +1,26 @@
 -- The ledger's rows against the history.
 --   bytes_issued g es    the bytes of the grant g among what happened to a slot
 --   GrantKept           the row of a grant tells what the history tells of it
+--   grant_still         so it stays
 --   LedgerKept          so does every row, and the open bytes of each slot add up
 --   ledger_none          at first
 --   ledger_same          after what issues and ends no grant
 --   ledger_granted       after a grant was issued
 --   ledger_ended         after a grant has ended
-use Rattle.std.proofs.Common.{◌≡◌, ℕ, ◌+◌, ◌*◌, ◌<◌, ◌≤◌, Bool, true, false, cond, eqb, List, [], ◌∷◌, length, set, sym, refl, ap, ◌∙◌, subst, ap₂, ⊎_elim, zero-add, arith}
-use Rattle.std.proofs.lemmas.List.{get_or-set_same, get_or-set_other, length-set}
-use Rattle.std.proofs.lemmas.Bool.{eq-eqb, ne_eqb, cases_eq}
+use Rattle.std.proofs.Common.{◌≡◌, ℕ, ◌+◌, ◌*◌, ◌<◌, ◌≤◌, Bool, true, false, cond, eqb, List, [], ◌∷◌, length, set, sym, refl, ap, ◌∙◌, ap₂, arith}
+use Rattle.std.proofs.lemmas.List.{length-set}
+use Rattle.std.proofs.lemmas.Bool.{cases_Bool, eq-eqb, ne_eqb, cases_eq}
 use Rattle.tables.specs.declared.row.Row.{Row}
 use Rattle.tables.specs.Rows.{blank_row, is_open, open_row}
 use Rattle.grant_calls.specs.Grants.{row}
 use Rattle.stream_calls.specs.declared.reporting.Feedback.{Feedback}
 use Rattle.law.specs.Effects.{Booking, SlotEvent}
 use Rattle.law.specs.Effects.Booking.{Granted, Settled, Expired, Reported}
-use Rattle.law.specs.Effects.SlotEvent.{Opened, Moved, Closed, Requested, Booked}
+use Rattle.law.specs.Effects.SlotEvent.{Booked}
 use Rattle.law.specs.Effects.Effect.{AtSlot}
 use Rattle.law.specs.Slots.{posted, is_grant, granted}
 use Rattle.law.specs.History.{History, of_slot, issued, ends, is_end_of, not_ended, booked, sum_of, open_bytes}
-use Rattle.law.proofs.Ways.{by_test, at_or_off}
+use Rattle.law.proofs.Ways.{at_set, event_cases}
 use Rattle.law.proofs.SlotFacts.{ended, ends_whole}
 
 -- 1 for yes
@@ -28,9 +29,7 @@ flag b = cond b 1 0
 
 abbrev pub bytes_if : ℕ → Booking → ℕ
 bytes_if g (Granted f k b) = cond (eqb k g) b 0
-bytes_if g (Settled k b n) = 0
-bytes_if g (Expired k b) = 0
-bytes_if g (Reported r) = 0
+bytes_if g _ = 0
 
 abbrev pub bytes_issued : ℕ → List SlotEvent → ℕ
 bytes_issued g es = sum_of (booked (bytes_if g)) es
@@ -44,6 +43,17 @@ pub record GrantKept (h : History) (r : Row) (g : ℕ) : Type 0 where
   -- its bytes went to the slot of its row, and to no other
   pub went : (i : ℕ) → bytes_issued g (of_slot h i) ≡ cond (eqb r.slot i) r.granted 0
 
+-- the same, where its ends and its bytes are told, and its row keeps slot and bytes
+pub grant_still : {h h' : History} {r r' : Row} {g : ℕ} → GrantKept h r g → r'.slot ≡ r.slot → r'.granted ≡ r.granted → ends h' g + flag (is_open r'.fate) ≡ 1
+    → ((i : ℕ) → bytes_issued g (of_slot h' i) ≡ bytes_issued g (of_slot h i)) → GrantKept h' r' g
+grant_still G slot_same granted_same once bytes = record {
+  within = omega (arith, G.within);
+  least = omega (arith, G.least);
+  most = omega (arith, G.most);
+  once = once;
+  went = λ i. bytes i ∙ G.went i ∙ ap₂ (λ x y. cond (eqb x i) y 0) (sym slot_same) (sym granted_same);
+}
+
 -- over R rows
 pub record LedgerKept (R : ℕ) (h : History) (rs : List Row) : Type 0 where
   pub size : length rs ≡ R
@@ -54,50 +64,23 @@ pub record LedgerKept (R : ℕ) (h : History) (rs : List Row) : Type 0 where
   pub bounded : (i : ℕ) → granted (of_slot h i) ≤ 9000 * issued h
 
 pub ledger_none : (R : ℕ) (rs : List Row) → length rs ≡ R → LedgerKept R [] rs
-ledger_none R rs e = record {
-  size = e;
-  room = omega arith;
-  grants = λ g l. absurd (omega arith);
-  unissued = λ g l. (refl, λ i. refl);
-  open_is = λ i. refl;
-  bounded = λ i. omega arith;
-}
+ledger_none R rs e = search arith
 
 -- the same bytes, where the same grants have ended
 pub open_same : (h h' : History) → ((g : ℕ) → ends h' g ≡ ends h g) → (es : List SlotEvent) → sum_of (booked (not_ended h')) es ≡ sum_of (booked (not_ended h)) es
 open_same h h' e [] = refl
-open_same h h' e (Opened f w ∷ es) = ap (λ n. n + 0) (open_same h h' e es)
-open_same h h' e (Moved f ∷ es) = ap (λ n. n + 0) (open_same h h' e es)
-open_same h h' e (Closed ∷ es) = ap (λ n. n + 0) (open_same h h' e es)
-open_same h h' e (Requested ∷ es) = ap (λ n. n + 0) (open_same h h' e es)
 open_same h h' e (Booked (Granted f g b) ∷ es) = ap₂ (λ n m. n + cond (eqb m 0) b 0) (open_same h h' e es) (e g)
-open_same h h' e (Booked (Settled g b n) ∷ es) = ap (λ n. n + 0) (open_same h h' e es)
-open_same h h' e (Booked (Expired g b) ∷ es) = ap (λ n. n + 0) (open_same h h' e es)
-open_same h h' e (Booked (Reported r) ∷ es) = ap (λ n. n + 0) (open_same h h' e es)
+open_same h h' e (_ ∷ es) = ap (λ n. n + 0) (open_same h h' e es)
 
 -- less the bytes of the one grant that has ended since
 module _ (h h' : History) (g : ℕ) (was : ends h g ≡ 0) (is : (j : ℕ) → ends h' j ≡ ends h j + cond (eqb g j) 1 0) where
   one_less : (j b : ℕ) → cond (eqb (ends h' j) 0) b 0 + cond (eqb j g) b 0 ≡ cond (eqb (ends h j) 0) b 0
-  one_less j b =
-      ⊎_elim
-      (λ (e : j ≡ g).
-      let now : ends h' j ≡ 1 = is j ∙ ap₂ (λ m n. m + n) (ap (ends h) e ∙ was) (ap (λ c. cond c 1 0) (eq-eqb g j (sym e))) in
-      ap₂ (λ m c. cond (eqb m 0) b 0 + cond c b 0) now (eq-eqb j g e) ∙ zero-add b ∙ sym (ap (λ m. cond (eqb m 0) b 0) (ap (ends h) e ∙ was)))
-      (λ (ne : j ≡ g → ⊥).
-      let now : ends h' j ≡ ends h j = is j ∙ ap (λ c. ends h j + cond c 1 0) (ne_eqb g j (λ e. ne (sym e))) ∙ omega arith in
-      ap₂ (λ m c. cond (eqb m 0) b 0 + cond c b 0) now (ne_eqb j g ne) ∙ omega arith)
-      (cases_eq j g)
+  one_less j b = grind (arith, is j, was, cases_eq j g, eq-eqb, ne_eqb)
 
   pub open_less : (es : List SlotEvent) → sum_of (booked (not_ended h')) es + bytes_issued g es ≡ sum_of (booked (not_ended h)) es
   open_less [] = refl
-  open_less (Opened f w ∷ es) = omega (arith, open_less es)
-  open_less (Moved f ∷ es) = omega (arith, open_less es)
-  open_less (Closed ∷ es) = omega (arith, open_less es)
-  open_less (Requested ∷ es) = omega (arith, open_less es)
   open_less (Booked (Granted f j b) ∷ es) = omega (arith, open_less es, one_less j b)
-  open_less (Booked (Settled j b n) ∷ es) = omega (arith, open_less es)
-  open_less (Booked (Expired j b) ∷ es) = omega (arith, open_less es)
-  open_less (Booked (Reported r) ∷ es) = omega (arith, open_less es)
+  open_less (_ ∷ es) = omega (arith, open_less es)
 
 -- what books no grant and no end of one
 pub record SameBooks (h h' : History) : Type 0 where
@@ -116,13 +99,7 @@ module _ {R : ℕ} {h : History} {rs : List Row} (K : LedgerKept R h rs) where
         room = omega (arith, B.issued_same, K.room);
         grants = λ g l.
             let G = K.grants g (omega (arith, B.issued_same)) in
-            record {
-              within = G.within;
-              least = G.least;
-              most = G.most;
-              once = ap (λ n. n + flag (is_open (row rs g).fate)) (B.ends_same g) ∙ G.once;
-              went = λ i. bytes g i ∙ G.went i;
-            };
+            grant_still G refl refl (ap (λ n. n + flag (is_open (row rs g).fate)) (B.ends_same g) ∙ G.once) (bytes g);
         unissued = λ g l. let U = K.unissued g (omega (arith, B.issued_same)) in (B.ends_same g ∙ U.0, λ i. bytes g i ∙ U.1 i);
         open_is = λ i.
             B.granted_same i ∙ K.open_is i
@@ -136,29 +113,19 @@ module _ {R : ℕ} {h : History} {rs : List Row} (K : LedgerKept R h rs) where
 
     -- the bytes of a grant, with the new one among them
     new_bytes : (g j : ℕ) → bytes_issued g (of_slot new j) ≡ bytes_issued g (of_slot h j) + cond (eqb i j) (cond (eqb (issued h) g) b 0) 0
-    new_bytes g j = at_or_off i j (λ c x. bytes_issued g (cond c (Booked (Granted f (issued h) b) ∷ of_slot h x) (of_slot h x)) ≡ bytes_issued g (of_slot h x) + cond c (cond (eqb (issued h) g) b 0) 0) refl (λ _. omega arith)
+    new_bytes g j = event_cases h t i j (Booked (Granted f (issued h) b)) (λ c x es. bytes_issued g es ≡ bytes_issued g (of_slot h x) + cond c (cond (eqb (issued h) g) b 0) 0) refl (λ _. omega arith)
 
     -- of an older grant, or of one still to come
     other_bytes : (g j : ℕ) → (issued h ≡ g → ⊥) → bytes_issued g (of_slot new j) ≡ bytes_issued g (of_slot h j)
     other_bytes g j ne =
-        new_bytes g j
-        ∙ ap (λ c. bytes_issued g (of_slot h j) + cond (eqb i j) (cond c b 0) 0) (ne_eqb (issued h) g ne)
-        ∙ by_test (eqb i j) (λ c. bytes_issued g (of_slot h j) + cond c 0 0 ≡ bytes_issued g (of_slot h j)) (λ _. omega arith) (λ _. omega arith)
+        grind (arith, new_bytes g j, ne_eqb (issued h) g ne, cases_Bool (eqb i j))
 
     own_bytes : (j : ℕ) → bytes_issued (issued h) (of_slot new j) ≡ cond (eqb i j) b 0
     own_bytes j =
-        new_bytes (issued h) j
-        ∙ ap₂ (λ m c. m + cond (eqb i j) (cond c b 0) 0) ((K.unissued (issued h) (omega arith)).1 j) (eq-eqb (issued h) (issued h) refl)
-        ∙ omega arith
+        grind (arith, new_bytes (issued h) j, (K.unissued (issued h) (omega arith)).1 j, eq-eqb (issued h) (issued h) refl)
 
     fresh : Row
     fresh = open_row i f b t e
-
-    row_new : row (set rs (issued h) fresh) (issued h) ≡ fresh
-    row_new = get_or-set_same rs (issued h) fresh blank_row (omega (arith, K.size))
-
-    row_old : (g : ℕ) → (issued h ≡ g → ⊥) → row (set rs (issued h) fresh) g ≡ row rs g
-    row_old g ne = get_or-set_other rs (issued h) g fresh blank_row (λ e. ne (sym e))
 
     grant_new : GrantKept new fresh (issued h)
     unfolding fresh
@@ -167,19 +134,19 @@ module _ {R : ℕ} {h : History} {rs : List Row} (K : LedgerKept R h rs) where
     grant_old : (g : ℕ) → (issued h ≡ g → ⊥) → g < issued h → GrantKept new (row rs g) g
     grant_old g ne l =
         let G = K.grants g l in
-        record { within = G.within; least = G.least; most = G.most; once = omega (arith, G.once); went = λ j. other_bytes g j ne ∙ G.went j }
+        grant_still G refl refl (omega (arith, G.once)) (λ j. other_bytes g j ne)
 
     open_new : (j : ℕ) → open_bytes new j ≡ open_bytes h j + cond (eqb i j) b 0
     open_new j =
         let same = open_same h new (λ g. omega arith) in
         let here : eqb (ends new (issued h)) 0 ≡ true = eq-eqb _ 0 (omega (arith, (K.unissued (issued h) (omega arith)).0)) in
-        at_or_off i j (λ c x. sum_of (booked (not_ended new)) (cond c (Booked (Granted f (issued h) b) ∷ of_slot h x) (of_slot h x)) ≡ open_bytes h x + cond c b 0)
+        event_cases h t i j (Booked (Granted f (issued h) b)) (λ c x es. sum_of (booked (not_ended new)) es ≡ open_bytes h x + cond c b 0)
         (ap₂ (λ m c. m + cond c b 0) (same (of_slot h i)) here)
         (λ _. same (of_slot h j) ∙ omega arith)
 
     books_new : (j : ℕ) → granted (of_slot new j) ≡ ended (of_slot new j) + (open_bytes h j + cond (eqb i j) b 0)
     books_new j =
-        at_or_off i j (λ c x. granted (cond c (Booked (Granted f (issued h) b) ∷ of_slot h x) (of_slot h x)) ≡ ended (cond c (Booked (Granted f (issued h) b) ∷ of_slot h x) (of_slot h x)) + (open_bytes h x + cond c b 0))
+        event_cases h t i j (Booked (Granted f (issued h) b)) (λ c x es. granted es ≡ ended es + (open_bytes h x + cond c b 0))
         (omega (arith, K.open_is i))
         (λ _. omega (arith, K.open_is j))
 
@@ -188,15 +155,11 @@ module _ {R : ℕ} {h : History} {rs : List Row} (K : LedgerKept R h rs) where
     ledger_granted = record {
       size = length-set rs (issued h) fresh ∙ K.size;
       room = omega arith;
-      grants = λ g l.
-          ⊎_elim
-          (λ (q : issued h ≡ g). subst (λ x. GrantKept new (row (set rs (issued h) fresh) x) x) q (subst (λ r. GrantKept new r (issued h)) (sym row_new) grant_new))
-          (λ (ne : issued h ≡ g → ⊥). subst (λ r. GrantKept new r g) (sym (row_old g ne)) (grant_old g ne (omega arith)))
-          (cases_eq (issued h) g);
+      grants = λ g l. at_set rs (issued h) g fresh blank_row (λ _ x r. GrantKept new r x) (omega (arith, K.size)) grant_new (λ (ne : issued h ≡ g → ⊥). grant_old g ne (omega arith));
       unissued = λ g l. let U = K.unissued g (omega arith) in (omega (arith, U.0), λ j. other_bytes g j (λ (q : issued h ≡ g). omega arith) ∙ U.1 j);
       open_is = λ j. books_new j ∙ ap (λ n. ended (of_slot new j) + n) (sym (open_new j));
       bounded = λ j.
-          at_or_off i j (λ c x. granted (cond c (Booked (Granted f (issued h) b) ∷ of_slot h x) (of_slot h x)) ≤ 9000 * (issued h + 1))
+          event_cases h t i j (Booked (Granted f (issued h) b)) (λ c x es. granted es ≤ 9000 * (issued h + 1))
           (omega (arith, K.bounded i))
           (λ _. omega (arith, K.bounded j));
     }
@@ -211,10 +174,10 @@ pub record Ends (g b : ℕ) (e : Booking) : Type 0 where
   pub holds_none : (h : History) → not_ended h e ≡ 0
 
 pub settle_ends : (g b n : ℕ) → n ≤ b → Ends g b (Settled g b n)
-settle_ends g b n l = record { no_grant = refl; ends_it = λ j. refl; grants_none = refl; ends_all = omega (arith, ends_whole b n l); issues_none = λ j. refl; holds_none = λ h. refl }
+settle_ends g b n l = search (arith, ends_whole b n l)
 
 pub expiry_ends : (g b : ℕ) → Ends g b (Expired g b)
-expiry_ends g b = record { no_grant = refl; ends_it = λ j. refl; grants_none = refl; ends_all = omega arith; issues_none = λ j. refl; holds_none = λ h. refl }
+expiry_ends g b = search arith
 
 module _ {R : ℕ} {h : History} {rs : List Row} (K : LedgerKept R h rs) (t g b : ℕ) (e : Booking) (E : Ends g b e) (there : g < issued h) (live : is_open (row rs g).fate ≡ true) (size_is : (row rs g).granted ≡ b) where
   abbrev after : History
@@ -228,7 +191,7 @@ module _ {R : ℕ} {h : History} {rs : List Row} (K : LedgerKept R h rs) (t g b 
 
   bytes_after : (j i : ℕ) → bytes_issued j (of_slot after i) ≡ bytes_issued j (of_slot h i)
   bytes_after j i =
-      at_or_off (row rs g).slot i (λ c x. bytes_issued j (cond c (Booked e ∷ of_slot h x) (of_slot h x)) ≡ bytes_issued j (of_slot h x))
+      event_cases h t (row rs g).slot i (Booked e) (λ c x es. bytes_issued j es ≡ bytes_issued j (of_slot h x))
       (omega (arith, E.issues_none j))
       (λ _. refl)
 
@@ -236,57 +199,40 @@ module _ {R : ℕ} {h : History} {rs : List Row} (K : LedgerKept R h rs) (t g b 
   open_after i =
       let less = open_less h after g not_yet ends_after in
       let went = (K.grants g there).went in
-      at_or_off (row rs g).slot i (λ c x. sum_of (booked (not_ended after)) (cond c (Booked e ∷ of_slot h x) (of_slot h x)) + cond c b 0 ≡ open_bytes h x)
-      (let own : bytes_issued g (of_slot h (row rs g).slot) ≡ (row rs g).granted = went (row rs g).slot ∙ ap (λ c. cond c (row rs g).granted 0) (eq-eqb _ _ refl) in
-      omega (arith, less (of_slot h (row rs g).slot), E.holds_none after))
-      (λ ne.
-      let none : bytes_issued g (of_slot h i) ≡ 0 = went i ∙ ap (λ c. cond c (row rs g).granted 0) (ne_eqb _ i ne) in
-      omega (arith, less (of_slot h i)))
+      event_cases h t (row rs g).slot i (Booked e) (λ c x es. sum_of (booked (not_ended after)) es + cond c b 0 ≡ open_bytes h x)
+      (grind (arith, less (of_slot h (row rs g).slot), E.holds_none after, went (row rs g).slot, eq-eqb (row rs g).slot (row rs g).slot refl, size_is))
+      (λ ne. grind (arith, less (of_slot h i), went i, ne_eqb (row rs g).slot i ne))
 
   module _ (r : Row) (slot_same : r.slot ≡ (row rs g).slot) (granted_same : r.granted ≡ (row rs g).granted) (over : is_open r.fate ≡ false) where
     grant_ended : GrantKept after r g
     grant_ended =
-        let G = K.grants g there in
-        record {
-          within = omega (arith, G.within);
-          least = omega (arith, G.least);
-          most = omega (arith, G.most);
-          once = (let none : flag (is_open r.fate) ≡ 0 = ap flag over in let own : flag (eqb g g) ≡ 1 = ap flag (eq-eqb g g refl) in omega (arith, ends_after g, not_yet));
-          went = λ i. bytes_after g i ∙ G.went i ∙ ap₂ (λ x y. cond (eqb x i) y 0) (sym slot_same) (sym granted_same);
-        }
+        let none : flag (is_open r.fate) ≡ 0 = ap flag over in
+        let own : flag (eqb g g) ≡ 1 = ap flag (eq-eqb g g refl) in
+        grant_still (K.grants g there) slot_same granted_same (omega (arith, ends_after g, not_yet)) (bytes_after g)
 
     grant_other : (j : ℕ) → (g ≡ j → ⊥) → j < issued h → GrantKept after (row rs j) j
     grant_other j ne l =
         let G = K.grants j l in
-        record {
-          within = G.within;
-          least = G.least;
-          most = G.most;
-          once = (let none : flag (eqb g j) ≡ 0 = ap flag (ne_eqb g j ne) in omega (arith, ends_after j, G.once));
-          went = λ i. bytes_after j i ∙ G.went i;
-        }
+        let none : flag (eqb g j) ≡ 0 = ap flag (ne_eqb g j ne) in
+        grant_still G refl refl (omega (arith, ends_after j, G.once)) (bytes_after j)
 
     pub ledger_ended : LedgerKept R after (set rs g r)
     ledger_ended = record {
       size = length-set rs g r ∙ K.size;
       room = omega (arith, E.no_grant, K.room);
-      grants = λ j l.
-          ⊎_elim
-          (λ (q : g ≡ j). subst (λ x. GrantKept after (row (set rs g r) x) x) q (subst (λ y. GrantKept after y g) (sym (get_or-set_same rs g r blank_row (omega (arith, K.size, K.room)))) grant_ended))
-          (λ (ne : g ≡ j → ⊥). subst (λ y. GrantKept after y j) (sym (get_or-set_other rs g j r blank_row (λ q. ne (sym q)))) (grant_other j ne (omega (arith, E.no_grant))))
-          (cases_eq g j);
+      grants = λ j l. at_set rs g j r blank_row (λ _ x y. GrantKept after y x) (omega (arith, K.size, K.room)) grant_ended (λ ne. grant_other j ne (omega (arith, E.no_grant)));
       unissued = λ j l.
           let U = K.unissued j (omega (arith, E.no_grant)) in
           let none : flag (eqb g j) ≡ 0 = ap flag (ne_eqb g j (λ (q : g ≡ j). omega (arith, E.no_grant))) in
           (omega (arith, ends_after j, U.0), λ i. bytes_after j i ∙ U.1 i);
       open_is = λ i.
           let open-now = open_after i in
-          at_or_off (row rs g).slot i (λ c x. open_bytes after x + cond c b 0 ≡ open_bytes h x → granted (cond c (Booked e ∷ of_slot h x) (of_slot h x)) ≡ ended (cond c (Booked e ∷ of_slot h x) (of_slot h x)) + open_bytes after x)
+          event_cases h t (row rs g).slot i (Booked e) (λ c x es. open_bytes after x + cond c b 0 ≡ open_bytes h x → granted es ≡ ended es + open_bytes after x)
           (λ o. omega (arith, K.open_is (row rs g).slot, E.grants_none, E.ends_all))
           (λ _ o. omega (arith, K.open_is i))
           open-now;
       bounded = λ i.
-          at_or_off (row rs g).slot i (λ c x. granted (cond c (Booked e ∷ of_slot h x) (of_slot h x)) ≤ 9000 * (issued h + is_grant e))
+          event_cases h t (row rs g).slot i (Booked e) (λ c x es. granted es ≤ 9000 * (issued h + is_grant e))
           (omega (arith, K.bounded (row rs g).slot, E.grants_none, E.no_grant))
           (λ _. omega (arith, K.bounded i, E.no_grant));
     }

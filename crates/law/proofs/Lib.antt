@@ -1,4 +1,5 @@
 pub mod Ways
+pub mod Calls
 pub mod Sums
 pub mod SlotFacts
 pub mod Changes

@@ -2,32 +2,30 @@
 --   passed_on_is   the schedulers of a slot that goes to another macroflow
 --   next_move      a move
 --   next_merge     a merge
-use Rattle.std.proofs.Common.{◌≡◌, ℕ, zero, suc, ◌<◌, ◌≤◌, Bool, true, false, cond, ◌&&◌, eqb, ltb, List, ◌∷◌, length, get_or, set, Some, None, Ok, sym, refl, ap, ◌∙◌, subst, ap₂, ⊎_elim, arith}
+use Rattle.std.proofs.Common.{◌≡◌, ℕ, zero, suc, ◌<◌, ◌≤◌, Bool, true, false, cond, ◌&&◌, eqb, ltb, List, ◌∷◌, length, get_or, set, sym, refl, ap, ◌∙◌, subst, ap₂, ⊎_elim, arith}
 use Rattle.std.proofs.lemmas.List.{get_or-set_same, get_or-set_other, length-set}
-use Rattle.std.proofs.lemmas.Bool.{ne_eqb, eqb-true, eqb-false, ltb-true, not-true, and_parts, and_right, cases_eq}
+use Rattle.std.proofs.lemmas.Bool.{cond-true, cond-false, ne_eqb, eqb-true, eqb-false, ltb-true, not-true, and_parts, and_right, cases_eq, cond_both}
 use Rattle.meaning.specs.Scheduling.{Scheduling, SchedulingLaws}
 use Rattle.tables.specs.declared.stream.Stream.{Stream}
 use Rattle.tables.specs.Streams as stream
 use Rattle.tables.specs.Core.{about_macroflow, at_time, put}
 use Rattle.tables.specs.Core as core
-use Rattle.tables.specs.Replies.{reply, answered}
-use Rattle.stream_calls.specs.Calls as calls
 use Rattle.stream_calls.specs.Calls.{passed_on}
-use Rattle.stream_calls.specs.Merges as moves
-use Rattle.stream_calls.specs.Merges.{Placed, placed, with_stream, moved_slot, moved_from, moved_below, replied}
+use Rattle.stream_calls.specs.Merges.{Placed, placed, with_stream, moved_slot, moved_below}
 use Rattle.manager.specs.declared.call.Call.TheVariants.{Move, Merge}
 use Rattle.manager.specs.State.{State, state}
-use Rattle.manager.specs.Steps.{of_schedulers, step}
+use Rattle.manager.specs.Steps.{step}
 use Rattle.law.specs.Effects.SlotEvent.{Moved}
 use Rattle.law.specs.Effects.Effect.{Merged}
 use Rattle.law.specs.Slots.{weight, waits}
 use Rattle.law.specs.History.{History, of_slot, open_in, is_in, waits_in, changed, changed_to}
-use Rattle.law.proofs.Ways.{by_test, at_or_off, asked_cases}
+use Rattle.law.proofs.Ways.{by_test, at_set}
+use Rattle.law.proofs.Calls.{move_cases, merge_cases}
 use Rattle.law.proofs.SlotFacts.{SlotKept, waits_is, is_in_is, kept_moved}
 use Rattle.law.proofs.Changes.{changed_same}
 use Rattle.law.proofs.Ledger.{ledger_same}
-use Rattle.law.proofs.Kept.{Host, StreamsKept, same_merged, scheduler_of, Kept, controller_still, scheduler_at, waiting_more}
-use Rattle.law.proofs.Streaming.{Next, kept_nothing, kept_at, is_there}
+use Rattle.law.proofs.Kept.{Host, StreamsKept, same_merged, scheduler_of, Kept, controller_still, scheduler_at}
+use Rattle.law.proofs.Streaming.{Next, kept_with, kept_nothing, kept_at, is_there}
 
 -- F schedulers in a list, which are those of `at`
 module _ {S : Type 0} (d : Scheduling S) (F : ℕ) (ss : List S) (at : ℕ → S) (size : length ss ≡ F) (is : (f : ℕ) → f < F → get_or ss f d.spare ≡ at f) where
@@ -37,18 +35,9 @@ module _ {S : Type 0} (d : Scheduling S) (F : ℕ) (ss : List S) (at : ℕ → S
       let z = d.spare in
       let first : List S = set ss p (G (get_or ss p z)) in
       let second : get_or first f z ≡ at f = get_or-set_other ss p f _ z (λ q. apart (sym q)) ∙ is f there in
-      at_or_off f g (λ c x. (x < F) → get_or (set first f (G' (get_or first f z))) x z ≡ cond (eqb p x) (G (at x)) (cond c (G' (at x)) (at x)))
-      (λ q.
-      get_or-set_same first f _ z (omega (arith, length-set ss p (G (get_or ss p z))))
-      ∙ ap G' second
-      ∙ ap (λ c. cond c (G (at f)) (G' (at f))) (sym (ne_eqb p f apart)))
-      (λ ne q.
-      get_or-set_other first f g _ z (λ e. ne (sym e))
-      ∙ at_or_off p g (λ c x. (x < F) → get_or first x z ≡ cond c (G (at x)) (at x))
-      (λ r. get_or-set_same ss p _ z (omega arith) ∙ ap G (is p r))
-      (λ other r. get_or-set_other ss p g _ z (λ e. other (sym e)) ∙ is g r)
-      q)
-      l
+      at_set first f g (G' (get_or first f z)) z (λ c x y. y ≡ cond (eqb p x) (G (at x)) (cond c (G' (at x)) (at x))) (omega (arith, length-set ss p (G (get_or ss p z))))
+      (ap G' second ∙ ap (λ c. cond c (G (at f)) (G' (at f))) (sym (ne_eqb p f apart)))
+      (λ _. at_set ss p g (G (get_or ss p z)) z (λ c x y. y ≡ cond c (G (at x)) (at x)) (omega arith) (ap G (is p here)) (λ _. is g l))
 
   -- the slot i with the record x goes from its macroflow to f
   module _ (i f : ℕ) (x : Stream) (here : x.macroflow < F) (there : f < F) (apart : x.macroflow ≡ f → ⊥) (on : x.opened ≡ true) where
@@ -63,21 +52,18 @@ module _ {S : Type 0} (d : Scheduling S) (F : ℕ) (ss : List S) (at : ℕ → S
     passed_on_is g l =
         let p = x.macroflow in
         let w : Bool = ltb 0 x.waiting in
-        by_test w (λ c. (w ≡ c) → get_or (cond c (set (set ss p (d.lowered (get_or ss p d.spare) i)) f (d.raised (get_or (set ss p (d.lowered (get_or ss p d.spare) i)) f d.spare) i x.weight)) ss) g d.spare ≡ changed d (at g) i x.weight (stream.waits_in x g) (stream.waits_in (stream.moved x f) g))
-        (λ some _.
+        cond_both w _ _ (λ xs. get_or xs g d.spare ≡ changed d (at g) i x.weight (stream.waits_in x g) (stream.waits_in (stream.moved x f) g))
+        (λ some.
         told_two p f g here there l apart (λ y. d.lowered y i) (λ y. d.raised y i x.weight)
         ∙ told_right g (eqb p g) (eqb f g) (λ a b. apart (eqb-true p g a ∙ sym (eqb-true f g b)))
         ∙ ap₂ (λ o c. changed d (at g) i x.weight (o && (eqb p g && c)) (o && (eqb f g && c))) (sym on) (sym some))
-        (λ none _.
+        (λ none.
         is g l
-        ∙ sym (changed_same d (at g) i x.weight _ _ (ap (λ c. x.opened && (eqb p g && c)) none ∙ ap (λ c. x.opened && c) (and_right (eqb p g) false refl ∙ sym (and_right (eqb f g) false refl)) ∙ sym (ap (λ c. x.opened && (eqb f g && c)) none))))
-        refl
+        ∙ sym (changed_same d (at g) i x.weight _ _ (cc (and_right (eqb p g) w none, and_right (eqb f g) w none))))
 
 pub passed_on_size : {S : Type 0} (d : Scheduling S) (ss : List S) (i f : ℕ) (x : Stream) → length (passed_on d ss i f x) ≡ length ss
 passed_on_size d ss i f x =
-    by_test (ltb 0 x.waiting) (λ c. length (cond c (set (set ss x.macroflow (d.lowered (get_or ss x.macroflow d.spare) i)) f (d.raised (get_or (set ss x.macroflow (d.lowered (get_or ss x.macroflow d.spare) i)) f d.spare) i x.weight)) ss) ≡ length ss)
-    (λ _. length-set _ f _ ∙ length-set ss _ _)
-    (λ _. refl)
+    cond_both (ltb 0 x.waiting) _ _ (λ xs. length xs ≡ length ss) (λ _. length-set _ f _ ∙ length-set ss _ _) (λ _. refl)
 
 module _ {C S : Type 0} (H : Host C S) (laws : SchedulingLaws 32 H.scheduling) (h : History) (s : State C S) (K : Kept H h s) where
   abbrev at_slot : ℕ → Stream
@@ -85,13 +71,10 @@ module _ {C S : Type 0} (H : Host C S) (laws : SchedulingLaws 32 H.scheduling) (
 
   pub next_move : (t i f : ℕ) → Next H h (Move t i f) (step H.control H.scheduling s (Move t i f))
   next_move t i f =
-      let m = s.core in
       let x = at_slot i in
       let d = H.scheduling in
       let ss = s.schedulers in
-      asked_cases (about_macroflow m (Some i) f) x (calls.move_questions m (length ss) t i f)
-      (λ r. Next H h (Move t i f) (of_schedulers s (answered r m ss (λ y. reply (Ok tt) (put m t i (stream.moved y f)) (passed_on d ss i f y)))))
-      (λ n. kept_nothing H laws h s K)
+      move_cases H.control d s (Next H h (Move t i f)) t i f (λ n _. kept_nothing H laws h s K)
       (λ p.
       let near = ltb-true i 32 p.1.1.0 in
       let there : f < H.macroflows = omega (arith, ltb-true f _ p.1.1.1.0, K.macroflows_is) in
@@ -162,7 +145,7 @@ module _ {C S : Type 0} (H : Host C S) (laws : SchedulingLaws 32 H.scheduling) (
         let from : x.macroflow ≡ a = eqb-true _ a (and_parts x.opened _ here).1 in
         let old = K.streams.slots n near in
         let same : core.stream p.core n ≡ x = G.still n (omega arith) near in
-        let own : goes n ≡ stream.moved x b = ap (λ c. cond c (stream.moved x b) x) here in
+        let own : goes n ≡ stream.moved x b = cond-true _ _ _ here in
         let new : SlotKept H.macroflows (stream.moved x b) (of_slot merged n) = subst (λ y. SlotKept H.macroflows y (of_slot merged n)) own (goes_kept n near) in
         let moved_one : Placed S = placed (with_stream p.core n (stream.moved x b)) (passed_on d p.schedulers n b x) in
         let now : Gone (suc n) moved_one = record {
@@ -199,7 +182,7 @@ module _ {C S : Type 0} (H : Host C S) (laws : SchedulingLaws 32 H.scheduling) (
           issued_same = G.issued_same;
           went = λ i l m.
               ⊎_elim
-              (λ (e : i ≡ n). G.still i (omega arith) m ∙ ap (λ j. at_slot j) e ∙ sym (ap (λ c. cond c (stream.moved x b) x) away) ∙ ap goes (sym e))
+              (λ (e : i ≡ n). G.still i (omega arith) m ∙ ap (λ j. at_slot j) e ∙ sym (cond-false _ _ _ away) ∙ ap goes (sym e))
               (λ (ne : i ≡ n → ⊥). G.went i (omega arith) m)
               (cases_eq i n);
           still = λ i l m. G.still i (omega arith) m;
@@ -216,7 +199,7 @@ module _ {C S : Type 0} (H : Host C S) (laws : SchedulingLaws 32 H.scheduling) (
         let near : n < 32 = omega arith in
         let same : core.stream p.core n ≡ at_slot n = G.still n (omega arith) near in
         subst (λ x. Gone (suc n) (cond (stream.is_in x a) (moved_slot H.scheduling n b p) p)) (sym same)
-        (by_test (stream.is_in (at_slot n) a) (λ c. Gone (suc n) (cond c (moved_slot H.scheduling n b p) p)) (λ here. gone_in n p near here G) (λ away. gone_out n p near away G))
+        (cond_both (stream.is_in (at_slot n) a) _ _ (Gone (suc n)) (λ here. gone_in n p near here G) (λ away. gone_out n p near away G))
 
     pub kept_merged : let p = moved_below H.scheduling a b 32 (placed s.core s.schedulers) in Kept H merged (state (at_time p.core t) s.controllers p.schedulers s.rows)
     kept_merged =
@@ -227,28 +210,10 @@ module _ {C S : Type 0} (H : Host C S) (laws : SchedulingLaws 32 H.scheduling) (
           slots = λ i l. subst (λ y. SlotKept H.macroflows y (of_slot merged i)) (sym (G.went i l l)) (goes_kept i l);
           far = λ i l. ap (λ es. cond (open_in a es) (Moved b ∷ es) es) (K.streams.far i l);
         } in
-        record {
-          macroflows_is = G.macroflows_same ∙ K.macroflows_is;
-          capacity_is = G.capacity_same ∙ K.capacity_is;
-          last_is = refl;
-          issued_is = G.issued_same ∙ K.issued_is;
-          streams = streams;
-          ledger = ledger_same K.ledger merged (same_merged h t a b);
-          parts = record {
-            controllers_size = K.parts.controllers_size;
-            schedulers_size = G.size;
-            controls = K.parts.controls;
-            schedules = G.told;
-          };
-          waiting = λ f i l. waiting_more H laws h (Merged t a b) K.streams.far streams f (λ j. K.waiting f j l) i;
-        }
+        kept_with H laws h s K (Merged t a b) _ G.macroflows_same G.capacity_same refl (G.issued_same ∙ K.issued_is) streams (ledger_same K.ledger merged (same_merged h t a b))
+        (record { controllers_size = K.parts.controllers_size; schedulers_size = G.size; controls = K.parts.controls; schedules = G.told })
 
   pub next_merge : (t a b : ℕ) → Next H h (Merge t a b) (step H.control H.scheduling s (Merge t a b))
   next_merge t a b =
-      let m = s.core in
-      let d = H.scheduling in
-      let ss = s.schedulers in
-      asked_cases (about_macroflow m None a) (tt {0}) (moves.merge_questions m (length ss) t a b)
-      (λ r. Next H h (Merge t a b) (of_schedulers s (answered r m ss (λ _. replied t (moved_below d a b 32 (placed m ss))))))
-      (λ n. kept_nothing H laws h s K)
+      merge_cases H.control H.scheduling s (Next H h (Merge t a b)) t a b (λ n _. kept_nothing H laws h s K)
       (λ p. kept_merged t a b (omega (arith, ltb-true a _ p.1.1.0, K.macroflows_is)) (omega (arith, ltb-true b _ p.1.1.1.0, K.macroflows_is)) (eqb-false a b (not-true _ p.1.1.1.1.0)))

@@ -2,26 +2,26 @@
 --   outstanding_most   a record's outstanding bytes are few enough that no sum of them overflows
 --   flight_is          the flight by the records is that by the history
 --   next_report        a report
-use Rattle.std.proofs.Common.{◌≡◌, ℕ, ◌-◌, ◌*◌, ◌^◌, ◌<◌, ◌≤◌, min, cond, ◌&&◌, eqb, length, get_or, set, Ok, sym, refl, ap, ◌∙◌, ap₂, arith}
-use Rattle.std.proofs.lemmas.List.{get_or-set_same, get_or-set_other, length-set}
-use Rattle.std.proofs.lemmas.Bool.{ltb-true, leb-true}
+use Rattle.std.proofs.Common.{◌≡◌, ℕ, ◌-◌, ◌*◌, ◌^◌, ◌<◌, ◌≤◌, min, cond, ◌&&◌, eqb, get_or, set, sym, refl, ap, ◌∙◌, ap₂, arith}
+use Rattle.std.proofs.lemmas.List.{length-set}
+use Rattle.std.proofs.lemmas.Bool.{ltb-true, leb-true, cond_both}
 use Rattle.meaning.specs.Scheduling.{SchedulingLaws}
 use Rattle.tables.specs.declared.stream.Stream.{Stream}
 use Rattle.tables.specs.Streams as stream
 use Rattle.tables.specs.Core.{about_slot, put}
 use Rattle.tables.specs.Core as core
-use Rattle.tables.specs.Replies.{reply, answered}
 use Rattle.tables.specs.Sums as sums
 use Rattle.stream_calls.specs.declared.reporting.Feedback.{Feedback}
 use Rattle.stream_calls.specs.Calls as reports
 use Rattle.manager.specs.declared.call.Call.TheVariants.{Report as Reports}
 use Rattle.manager.specs.State.{State}
-use Rattle.manager.specs.Steps.{of_report, step}
+use Rattle.manager.specs.Steps.{step}
 use Rattle.law.specs.Effects.Booking.{Reported}
 use Rattle.law.specs.Effects.SlotEvent.{Booked}
 use Rattle.law.specs.Slots.{outstanding}
 use Rattle.law.specs.History.{History, of_slot, is_in, flight, report_of}
-use Rattle.law.proofs.Ways.{by_test, at_or_off, asked_cases}
+use Rattle.law.proofs.Ways.{at_set}
+use Rattle.law.proofs.Calls.{report_cases}
 use Rattle.law.proofs.Sums.{sum_is, sum_most}
 use Rattle.law.proofs.SlotFacts.{outstanding_is, is_in_is, kept_reported}
 use Rattle.law.proofs.Kept.{Host, controller_of, scheduler_of, Kept, scheduler_at}
@@ -48,7 +48,7 @@ module _ {C S : Type 0} (H : Host C S) (laws : SchedulingLaws 32 H.scheduling) (
       sum_is 32 (λ i. stream.flight_in (at_slot i) f) (λ i. cond (is_in h f i) (outstanding (of_slot h i)) 0)
       (λ i l. let old = K.streams.slots i l in ap₂ (λ c n. cond c n 0) (is_in_is old f) (outstanding_is old)) in
       let most : flight h f ≤ 32 * 589824000 = sum_most 32 589824000 (λ i. cond (is_in h f i) (outstanding (of_slot h i)) 0)
-      (λ i l. by_test (is_in h f i) (λ c. cond c (outstanding (of_slot h i)) 0 ≤ 589824000) (λ _. omega (arith, outstanding_most i l, outstanding_is (K.streams.slots i l))) (λ _. omega arith)) in
+      (λ i l. cond_both (is_in h f i) _ _ (λ n. n ≤ 589824000) (λ _. omega (arith, outstanding_most i l, outstanding_is (K.streams.slots i l))) (λ _. omega arith)) in
       ap (λ n. min n (2 ^ 64 - 1)) same ∙ omega arith
 
   pub next_report : (t i : ℕ) (b : Feedback) → Next H h (Reports t i b) (step H.control H.scheduling s (Reports t i b))
@@ -57,9 +57,7 @@ module _ {C S : Type 0} (H : Host C S) (laws : SchedulingLaws 32 H.scheduling) (
       let x = at_slot i in
       let k = H.control in
       let cs = s.controllers in
-      asked_cases (about_slot m i) x (reports.report_questions m (length cs) t i b)
-      (λ r. Next H h (Reports t i b) (of_report s (answered r m cs (λ y. reply (Ok tt) (put m t i (stream.reported y b.received b.lost t)) (set cs y.macroflow (k.told (get_or cs y.macroflow k.spare) (reports.heard m y.macroflow t b)))))))
-      (λ n. kept_nothing H laws h s K)
+      report_cases k H.scheduling s (Next H h (Reports t i b)) t i b (λ n _. kept_nothing H laws h s K)
       (λ p.
       let near = ltb-true i 32 p.1.1.0 in
       let on = p.1.1.1.0 in
@@ -74,10 +72,9 @@ module _ {C S : Type 0} (H : Host C S) (laws : SchedulingLaws 32 H.scheduling) (
         controllers_size = length-set cs _ _ ∙ K.parts.controllers_size;
         schedulers_size = K.parts.schedulers_size;
         controls = λ f l.
-            at_or_off x.macroflow f (λ c g. (g < H.macroflows) → get_or (set cs x.macroflow (k.told (get_or cs x.macroflow z) (reports.heard m x.macroflow t b))) g z ≡ cond c (k.told (controller_of H h g) (report_of t b (flight h g))) (controller_of H h g))
-            (λ q. get_or-set_same cs x.macroflow _ z (omega (arith, K.parts.controllers_size)) ∙ ap₂ (λ c n. k.told c (report_of t b n)) (K.parts.controls x.macroflow q) (flight_is x.macroflow))
-            (λ ne q. get_or-set_other cs x.macroflow f _ z (λ e. ne (sym e)) ∙ K.parts.controls f q)
-            l
+            at_set cs x.macroflow f (k.told (get_or cs x.macroflow z) (reports.heard m x.macroflow t b)) z (λ c g y. y ≡ cond c (k.told (controller_of H h g) (report_of t b (flight h g))) (controller_of H h g)) (omega (arith, K.parts.controllers_size))
+            (ap₂ (λ c n. k.told c (report_of t b n)) (K.parts.controls x.macroflow there) (flight_is x.macroflow))
+            (λ _. K.parts.controls f l)
             ∙ ap (λ c. cond c (k.told (controller_of H h f) (report_of t b (flight h f))) (controller_of H h f)) (sym (in-its-own f));
         schedules = λ f l. K.parts.schedules f l ∙ stays H laws h s K (scheduler_of H h f) i x.weight _ _ refl ∙ sym (scheduler_at H h t i (Booked (Reported b)) f x _ near old new);
       }))

@@ -1,30 +1,31 @@
 -- Opening, requesting and closing keep what the manager holds in step with the history.
 --   Next             what is to be shown of a call's answer and what it leaves
+--   parts_still      the parts, where they are told nothing
+--   kept_with        one call more, after which the parts are kept
 --   kept_nothing     a refused call
 --   kept_passed      an accepted call that does nothing to a slot
 --   kept_at          one that changes one record, and writes no row
-use Rattle.std.proofs.Common.{◌≡◌, ℕ, ◌+◌, ◌<◌, Bool, true, false, cond, ◌&&◌, eqb, ltb, leb, List, ◌∷◌, length, get_or, set, Some, Ok, sym, refl, ap, ◌∙◌, ap₂, arith}
-use Rattle.std.proofs.lemmas.List.{get_or-set_same, get_or-set_other, length-set}
-use Rattle.std.proofs.lemmas.Bool.{eqb-true, eqb-false, ltb-true, lt-ltb, leb-true, not-true, and_parts, and_right}
+use Rattle.std.proofs.Common.{◌≡◌, ℕ, ◌+◌, ◌<◌, Bool, true, false, cond, ◌&&◌, eqb, ltb, leb, List, ◌∷◌, length, get_or, set, sym, refl, ap, ◌∙◌, ap₂, arith}
+use Rattle.std.proofs.lemmas.List.{length-set}
+use Rattle.std.proofs.lemmas.Bool.{eqb-true, eqb-false, ltb-true, lt-ltb, leb-true, not-true, and_parts, and_right, cond_both}
 use Rattle.meaning.specs.Scheduling.{SchedulingLaws}
 use Rattle.tables.specs.declared.stream.Stream.{Stream}
 use Rattle.tables.specs.Streams as stream
 use Rattle.tables.specs.Core.{about_slot, about_macroflow, at_time, put}
 use Rattle.tables.specs.Core as core
-use Rattle.tables.specs.Replies.{reply, answered}
-use Rattle.stream_calls.specs.Calls as calls
 use Rattle.manager.specs.declared.call.Call.{Call}
 use Rattle.manager.specs.declared.call.Call.TheVariants.{Open, Request, Close}
 use Rattle.manager.specs.State.{State, state}
-use Rattle.manager.specs.Steps.{Stepped, of_open, of_schedulers, step}
+use Rattle.manager.specs.Steps.{Stepped, step}
 use Rattle.law.specs.Effects.{SlotEvent, Effect, effect}
 use Rattle.law.specs.Effects.SlotEvent.{Opened, Closed, Requested}
 use Rattle.law.specs.Effects.Effect.{Nothing, Passed, AtSlot}
-use Rattle.law.specs.History.{History, of_slot, changed}
-use Rattle.law.proofs.Ways.{by_test, at_or_off, asked_cases}
+use Rattle.law.specs.History.{History, of_slot, last_time, issued, changed}
+use Rattle.law.proofs.Ways.{by_test, at_set}
+use Rattle.law.proofs.Calls.{open_cases, request_cases, close_cases}
 use Rattle.law.proofs.SlotFacts.{SlotKept, waits_is, kept_opened, kept_requested, kept_closed}
 use Rattle.law.proofs.Changes.{changed_same}
-use Rattle.law.proofs.Ledger.{ledger_same}
+use Rattle.law.proofs.Ledger.{LedgerKept, ledger_same}
 use Rattle.law.proofs.Kept.{Host, StreamsKept, streams_at, WritesNoRow, same_at, same_nothing, same_passed, controller_of, scheduler_of, PartsKept, Kept, controller_still, scheduler_still, scheduler_at, waiting_more}
 
 module _ {C S : Type 0} (H : Host C S) where
@@ -32,7 +33,7 @@ module _ {C S : Type 0} (H : Host C S) where
   Next h c o = Kept H (effect o.state.rows c o.answer ∷ h) o.state
 
 module _ {C S : Type 0} (H : Host C S) (laws : SchedulingLaws 32 H.scheduling) (h : History) (s : State C S) (K : Kept H h s) where
-  parts_still : (e : Effect) → ((f : ℕ) → controller_of H (e ∷ h) f ≡ controller_of H h f) → ((f : ℕ) → scheduler_of H (e ∷ h) f ≡ scheduler_of H h f) → PartsKept H (e ∷ h) s.controllers s.schedulers
+  pub parts_still : (e : Effect) → ((f : ℕ) → controller_of H (e ∷ h) f ≡ controller_of H h f) → ((f : ℕ) → scheduler_of H (e ∷ h) f ≡ scheduler_of H h f) → PartsKept H (e ∷ h) s.controllers s.schedulers
   parts_still e c d = let P = K.parts in record {
     controllers_size = P.controllers_size;
     schedulers_size = P.schedulers_size;
@@ -40,48 +41,37 @@ module _ {C S : Type 0} (H : Host C S) (laws : SchedulingLaws 32 H.scheduling) (
     schedules = λ f l. P.schedules f l ∙ sym (d f);
   }
 
+  -- the schedulers have those waiting who wait, by the records
+  pub kept_with : (e : Effect) (s' : State C S) → s'.core.macroflows ≡ s.core.macroflows → s'.core.capacity ≡ s.core.capacity → s'.core.last ≡ last_time (e ∷ h) → s'.core.issued ≡ issued (e ∷ h)
+      → StreamsKept H.macroflows (e ∷ h) s'.core.streams → LedgerKept H.rows (e ∷ h) s'.rows → PartsKept H (e ∷ h) s'.controllers s'.schedulers → Kept H (e ∷ h) s'
+  kept_with e s' macroflows_same capacity_same last_is issued_is streams ledger parts = record {
+    macroflows_is = macroflows_same ∙ K.macroflows_is;
+    capacity_is = capacity_same ∙ K.capacity_is;
+    last_is = last_is;
+    issued_is = issued_is;
+    streams = streams;
+    ledger = ledger;
+    parts = parts;
+    waiting = λ f i l. waiting_more H laws h e K.streams.far streams f (λ j. K.waiting f j l) i;
+  }
+
   pub kept_nothing : Kept H (Nothing ∷ h) s
   kept_nothing =
-      let streams : StreamsKept H.macroflows (Nothing ∷ h) s.core.streams = record { many = K.streams.many; slots = K.streams.slots; far = K.streams.far } in
-      record {
-        macroflows_is = K.macroflows_is;
-        capacity_is = K.capacity_is;
-        last_is = K.last_is;
-        issued_is = K.issued_is;
-        streams = streams;
-        ledger = ledger_same K.ledger (Nothing ∷ h) (same_nothing h);
-        parts = parts_still Nothing (λ f. refl) (λ f. scheduler_still H h Nothing f refl (λ i l. refl));
-        waiting = λ f i l. waiting_more H laws h Nothing K.streams.far streams f (λ j. K.waiting f j l) i;
-      }
+      kept_with Nothing _ refl refl K.last_is K.issued_is (record { many = K.streams.many; slots = K.streams.slots; far = K.streams.far })
+      (ledger_same K.ledger (Nothing ∷ h) (same_nothing h))
+      (parts_still Nothing (λ f. refl) (λ f. scheduler_still H h Nothing f refl (λ i l. refl)))
 
   pub kept_passed : (t : ℕ) → Kept H (Passed t ∷ h) (state (at_time s.core t) s.controllers s.schedulers s.rows)
   kept_passed t =
-      let streams : StreamsKept H.macroflows (Passed t ∷ h) s.core.streams = record { many = K.streams.many; slots = K.streams.slots; far = K.streams.far } in
-      record {
-        macroflows_is = K.macroflows_is;
-        capacity_is = K.capacity_is;
-        last_is = refl;
-        issued_is = K.issued_is;
-        streams = streams;
-        ledger = ledger_same K.ledger (Passed t ∷ h) (same_passed h t);
-        parts = parts_still (Passed t) (λ f. refl) (λ f. scheduler_still H h (Passed t) f refl (λ i l. refl));
-        waiting = λ f i l. waiting_more H laws h (Passed t) K.streams.far streams f (λ j. K.waiting f j l) i;
-      }
+      kept_with (Passed t) _ refl refl refl K.issued_is (record { many = K.streams.many; slots = K.streams.slots; far = K.streams.far })
+      (ledger_same K.ledger (Passed t ∷ h) (same_passed h t))
+      (parts_still (Passed t) (λ f. refl) (λ f. scheduler_still H h (Passed t) f refl (λ i l. refl)))
 
   pub kept_at : (t i : ℕ) (e : SlotEvent) (r : Stream) (cs : List C) (ss : List S) → WritesNoRow e → i < 32 → SlotKept H.macroflows r (e ∷ of_slot h i) → PartsKept H (AtSlot t i e ∷ h) cs ss
       → Kept H (AtSlot t i e ∷ h) (state (put s.core t i r) cs ss s.rows)
   kept_at t i e r cs ss quiet near new parts =
-      let streams = streams_at K.streams t i e r near new in
-      record {
-        macroflows_is = K.macroflows_is;
-        capacity_is = K.capacity_is;
-        last_is = refl;
-        issued_is = K.issued_is ∙ sym (same_at h t i e quiet).issued_same;
-        streams = streams;
-        ledger = ledger_same K.ledger (AtSlot t i e ∷ h) (same_at h t i e quiet);
-        parts = parts;
-        waiting = λ f j l. waiting_more H laws h (AtSlot t i e) K.streams.far streams f (λ x. K.waiting f x l) j;
-      }
+      let same = same_at h t i e quiet in
+      kept_with (AtSlot t i e) _ refl refl refl (K.issued_is ∙ sym same.issued_same) (streams_at K.streams t i e r near new) (ledger_same K.ledger (AtSlot t i e ∷ h) same) parts
 
   -- the record of the slot i
   abbrev at_slot : ℕ → Stream
@@ -93,9 +83,7 @@ module _ {C S : Type 0} (H : Host C S) (laws : SchedulingLaws 32 H.scheduling) (
   pub next_open : (t i f w l : ℕ) → Next H h (Open t i f w l) (step H.control H.scheduling s (Open t i f w l))
   next_open t i f w l =
       let m = s.core in
-      asked_cases (about_macroflow m (Some i) f) (at_slot i) (calls.open_questions m t i f w l)
-      (λ r. Next H h (Open t i f w l) (of_open s (answered r m tt (λ x. reply (Ok tt) (put m t i (stream.opened x f w l t)) tt))))
-      (λ n. kept_nothing)
+      open_cases H.control H.scheduling s (Next H h (Open t i f w l)) t i f w l (λ n _. kept_nothing)
       (λ p.
       let near = ltb-true i 32 p.1.0 in
       let there : f < H.macroflows = omega (arith, ltb-true f m.macroflows p.1.1.0, K.macroflows_is) in
@@ -116,16 +104,11 @@ module _ {C S : Type 0} (H : Host C S) (laws : SchedulingLaws 32 H.scheduling) (
   told_one p f there l G =
       let ss = s.schedulers in
       let z = H.scheduling.spare in
-      at_or_off p f (λ b x. get_or (set ss p (G (get_or ss p z))) x z ≡ cond b (G (scheduler_of H h x)) (scheduler_of H h x))
-      (get_or-set_same ss p (G (get_or ss p z)) z (omega (arith, K.parts.schedulers_size)) ∙ ap G (K.parts.schedules p there))
-      (λ ne. get_or-set_other ss p f (G (get_or ss p z)) z (λ q. ne (sym q)) ∙ K.parts.schedules f l)
+      at_set ss p f (G (get_or ss p z)) z (λ b x y. y ≡ cond b (G (scheduler_of H h x)) (scheduler_of H h x)) (omega (arith, K.parts.schedulers_size)) (ap G (K.parts.schedules p there)) (λ _. K.parts.schedules f l)
 
   -- what a scheduler is told of one slot
   pub begins : (x : S) (i w : ℕ) (before now : Bool) → before ≡ false → now ≡ true → H.scheduling.raised x i w ≡ changed H.scheduling x i w before now
   begins x i w before now b n = sym (ap₂ (λ y z. changed H.scheduling x i w y z) b n)
-
-  pub ceases : (x : S) (i w : ℕ) (before now : Bool) → before ≡ true → now ≡ false → H.scheduling.lowered x i ≡ changed H.scheduling x i w before now
-  ceases x i w before now b n = sym (ap₂ (λ y z. changed H.scheduling x i w y z) b n)
 
   pub stays : (x : S) (i w : ℕ) (before now : Bool) → before ≡ now → x ≡ changed H.scheduling x i w before now
   stays x i w before now e = sym (changed_same H.scheduling x i w before now e)
@@ -140,13 +123,10 @@ module _ {C S : Type 0} (H : Host C S) (laws : SchedulingLaws 32 H.scheduling) (
 
   pub next_request : (t i : ℕ) → Next H h (Request t i) (step H.control H.scheduling s (Request t i))
   next_request t i =
-      let m = s.core in
       let x = at_slot i in
       let d = H.scheduling in
       let ss = s.schedulers in
-      asked_cases (about_slot m i) x (calls.request_questions m (length ss) t i)
-      (λ r. Next H h (Request t i) (of_schedulers s (answered r m ss (λ y. reply (Ok tt) (put m t i (stream.requested y t)) (cond (eqb y.waiting 0) (set ss y.macroflow (d.raised (get_or ss y.macroflow d.spare) i y.weight)) ss)))))
-      (λ n. kept_nothing)
+      request_cases H.control d s (Next H h (Request t i)) t i (λ n _. kept_nothing)
       (λ p.
       let near = ltb-true i 32 p.1.1.0 in
       let on = p.1.1.1.0 in
@@ -154,35 +134,31 @@ module _ {C S : Type 0} (H : Host C S) (laws : SchedulingLaws 32 H.scheduling) (
       let new = kept_requested old t (sym old.opened_is ∙ on) (ltb-true _ 255 p.1.1.1.1.0) in
       let there = is_there i near on in
       let more : ltb 0 (x.waiting + 1) ≡ true = lt-ltb 0 _ (omega arith) in
-      let h' : History = AtSlot t i Requested ∷ h in
-      let now : (f : ℕ) → scheduler_of H h' f ≡ changed d (scheduler_of H h f) i x.weight (x.opened && (eqb x.macroflow f && ltb 0 x.waiting)) (x.opened && (eqb x.macroflow f && ltb 0 (x.waiting + 1))) = λ f. scheduler_at H h t i Requested f x _ near old new in
-      let first : eqb x.waiting 0 ≡ true → (f : ℕ) → f < H.macroflows → get_or (set ss x.macroflow (d.raised (get_or ss x.macroflow d.spare) i x.weight)) f d.spare ≡ scheduler_of H h' f = λ none f l.
-      told_one x.macroflow f there l (λ y. d.raised y i x.weight)
-      ∙ by_test (eqb x.macroflow f) (λ c. cond c (d.raised (scheduler_of H h f) i x.weight) (scheduler_of H h f) ≡ changed d (scheduler_of H h f) i x.weight (x.opened && (c && ltb 0 x.waiting)) (x.opened && (c && ltb 0 (x.waiting + 1))))
-      (λ _. begins (scheduler_of H h f) i x.weight _ _ (ap₂ (λ a b. a && ltb 0 b) on (eqb-true x.waiting 0 none)) (ap₂ (λ a b. a && b) on more))
-      (λ _. stays (scheduler_of H h f) i x.weight _ _ refl)
-      ∙ sym (now f) in
-      let again : eqb x.waiting 0 ≡ false → (f : ℕ) → f < H.macroflows → get_or ss f d.spare ≡ scheduler_of H h' f = λ some f l.
-      K.parts.schedules f l
-      ∙ stays (scheduler_of H h f) i x.weight _ _ (ap (λ b. x.opened && (eqb x.macroflow f && b)) (lt-ltb 0 x.waiting (let ne = eqb-false x.waiting 0 some in omega arith) ∙ sym more))
-      ∙ sym (now f) in
       kept_at t i Requested (stream.requested x t) s.controllers (cond (eqb x.waiting 0) (set ss x.macroflow (d.raised (get_or ss x.macroflow d.spare) i x.weight)) ss) tt near new
       (record {
         controllers_size = K.parts.controllers_size;
-        schedulers_size = by_test (eqb x.waiting 0) (λ c. length (cond c (set ss x.macroflow (d.raised (get_or ss x.macroflow d.spare) i x.weight)) ss) ≡ H.macroflows) (λ _. length-set ss _ _ ∙ K.parts.schedulers_size) (λ _. K.parts.schedulers_size);
+        schedulers_size = cond_both (eqb x.waiting 0) _ _ (λ xs. length xs ≡ H.macroflows) (λ _. length-set ss _ _ ∙ K.parts.schedulers_size) (λ _. K.parts.schedulers_size);
         controls = λ f l. K.parts.controls f l ∙ sym (controller_still H h t i Requested f (λ n c. refl));
-        schedules = λ f l. by_test (eqb x.waiting 0) (λ c. get_or (cond c (set ss x.macroflow (d.raised (get_or ss x.macroflow d.spare) i x.weight)) ss) f d.spare ≡ scheduler_of H h' f) (λ none. first none f l) (λ some. again some f l);
+        schedules = λ f l.
+            let y = scheduler_of H h f in
+            cond_both (eqb x.waiting 0) _ _ (λ xs. get_or xs f d.spare ≡ changed d y i x.weight (x.opened && (eqb x.macroflow f && ltb 0 x.waiting)) (x.opened && (eqb x.macroflow f && ltb 0 (x.waiting + 1))))
+            -- the first request: in its own macroflow it begins to wait
+            (λ none.
+            told_one x.macroflow f there l (λ z. d.raised z i x.weight)
+            ∙ by_test (eqb x.macroflow f) (λ c. cond c (d.raised y i x.weight) y ≡ changed d y i x.weight (x.opened && (c && ltb 0 x.waiting)) (x.opened && (c && ltb 0 (x.waiting + 1))))
+            (λ _. begins y i x.weight _ _ (ap₂ (λ a b. a && ltb 0 b) on (eqb-true x.waiting 0 none)) (ap₂ (λ a b. a && b) on more))
+            (λ _. stays y i x.weight _ _ refl))
+            -- it waited already
+            (λ some. K.parts.schedules f l ∙ stays y i x.weight _ _ (ap (λ b. x.opened && (eqb x.macroflow f && b)) (lt-ltb 0 x.waiting (let ne = eqb-false x.waiting 0 some in omega arith) ∙ sym more)))
+            ∙ sym (scheduler_at H h t i Requested f x _ near old new);
       }))
 
   pub next_close : (t i : ℕ) → Next H h (Close t i) (step H.control H.scheduling s (Close t i))
   next_close t i =
-      let m = s.core in
       let x = at_slot i in
       let d = H.scheduling in
       let ss = s.schedulers in
-      asked_cases (about_slot m i) x (calls.close_questions m (length ss) t i)
-      (λ r. Next H h (Close t i) (of_schedulers s (answered r m ss (λ y. reply (Ok tt) (put m t i (stream.closed y)) (set ss y.macroflow (d.lowered (get_or ss y.macroflow d.spare) i))))))
-      (λ n. kept_nothing)
+      close_cases H.control d s (Next H h (Close t i)) t i (λ n _. kept_nothing)
       (λ p.
       let near = ltb-true i 32 p.1.1.0 in
       let on = p.1.1.1.0 in
@@ -203,9 +179,8 @@ module _ {C S : Type 0} (H : Host C S) (laws : SchedulingLaws 32 H.scheduling) (
         controls = λ f l. K.parts.controls f l ∙ sym (controller_still H h t i Closed f (λ n c. refl));
         schedules = λ f l.
             told_one x.macroflow f there l (λ y. d.lowered y i)
-            ∙ by_test (eqb x.macroflow f) (λ c. (eqb x.macroflow f ≡ c) → cond c (d.lowered (scheduler_of H h f) i) (scheduler_of H h f) ≡ changed d (scheduler_of H h f) i x.weight (stream.waits_in x f) false)
-            (λ here _. own f l here)
-            (λ away _. stays (scheduler_of H h f) i x.weight _ _ (off f away))
-            refl
+            ∙ cond_both (eqb x.macroflow f) _ _ (λ y. y ≡ changed d (scheduler_of H h f) i x.weight (stream.waits_in x f) false)
+            (own f l)
+            (λ away. stays (scheduler_of H h f) i x.weight _ _ (off f away))
             ∙ sym (scheduler_at H h t i Closed f x _ near old new);
       }))

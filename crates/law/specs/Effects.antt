@@ -5,14 +5,14 @@
 --   slot_of rows g    the slot of the grant g, as its row has it
 --   bytes_of rows g   the bytes granted, as its row has them
 --   effect rows c a   what the call c did that was answered a
-use Rattle.std.specs.Prelude.{ℕ, List, map, Some, None, slice_index}
+use Rattle.std.specs.Prelude.{ℕ, List, map, Some, None, slice_index, Ok, Err}
 use Rattle.tables.specs.declared.row.Row.{Row}
 use Rattle.stream_calls.specs.declared.reporting.Feedback.{Feedback}
 use Rattle.grant_calls.specs.declared.polling.Polled.TheVariants as poll
 use Rattle.manager.specs.declared.call.Call.{Call}
 use Rattle.manager.specs.declared.call.Call.TheVariants.{Open, Request, Poll, TakeUp, Settle, Expire, Report, Move, Merge, Close}
-use Rattle.manager.specs.declared.call.Answer.{Answer}
-use Rattle.manager.specs.declared.call.Answer.TheVariants as answer
+use Rattle.manager.specs.Answers.{Answer}
+use Rattle.manager.specs.declared.call.Told.TheVariants as told
 
 pub data Booking : Type 0 where
   -- a grant was issued in a macroflow, settled with the bytes that were sent, or expired
@@ -46,30 +46,27 @@ abbrev pub bytes_of : List Row → ℕ → ℕ
 bytes_of rows g = slice_index (map (λ r. r.granted) rows) g
 
 abbrev pub unless_refused : Answer → Effect → Effect
-unless_refused answer.Done e = e
-unless_refused (answer.Polled p) e = e
-unless_refused (answer.TakenUp g) e = e
-unless_refused (answer.Expired o) e = e
-unless_refused (answer.Refused r) e = Nothing
+unless_refused (Ok t) e = e
+unless_refused (Err r) e = Nothing
 
 -- a poll of the macroflow f at the time t
 abbrev pub poll_effect : List Row → ℕ → ℕ → Answer → Effect
-poll_effect rows t f (answer.Polled (poll.Granted g)) = AtSlot t (slot_of rows g) (Booked (Granted f g (bytes_of rows g)))
-poll_effect rows t f (answer.Polled poll.NoFit) = Passed t
-poll_effect rows t f (answer.Polled poll.NoneWaits) = Passed t
-poll_effect rows t f answer.Done = Passed t
-poll_effect rows t f (answer.TakenUp g) = Passed t
-poll_effect rows t f (answer.Expired o) = Passed t
-poll_effect rows t f (answer.Refused r) = Nothing
+poll_effect rows t f (Ok (told.Polled (poll.Granted g))) = AtSlot t (slot_of rows g) (Booked (Granted f g (bytes_of rows g)))
+poll_effect rows t f (Ok (told.Polled poll.NoFit)) = Passed t
+poll_effect rows t f (Ok (told.Polled poll.NoneWaits)) = Passed t
+poll_effect rows t f (Ok told.Done) = Passed t
+poll_effect rows t f (Ok (told.TakenUp g)) = Passed t
+poll_effect rows t f (Ok (told.Expired o)) = Passed t
+poll_effect rows t f (Err r) = Nothing
 
 -- an expiry at the time t
 abbrev pub expire_effect : List Row → ℕ → Answer → Effect
-expire_effect rows t (answer.Expired (Some g)) = AtSlot t (slot_of rows g) (Booked (Expired g (bytes_of rows g)))
-expire_effect rows t (answer.Expired None) = Passed t
-expire_effect rows t answer.Done = Passed t
-expire_effect rows t (answer.Polled p) = Passed t
-expire_effect rows t (answer.TakenUp g) = Passed t
-expire_effect rows t (answer.Refused r) = Nothing
+expire_effect rows t (Ok (told.Expired (Some g))) = AtSlot t (slot_of rows g) (Booked (Expired g (bytes_of rows g)))
+expire_effect rows t (Ok (told.Expired None)) = Passed t
+expire_effect rows t (Ok told.Done) = Passed t
+expire_effect rows t (Ok (told.Polled p)) = Passed t
+expire_effect rows t (Ok (told.TakenUp g)) = Passed t
+expire_effect rows t (Err r) = Nothing
 
 abbrev pub effect : List Row → Call → Answer → Effect
 effect rows (Open t i f w l) a = unless_refused a (AtSlot t i (Opened f w))

@@ -14,7 +14,8 @@
 --   TablesAreSound               no call finds the tables at odds
 --   RefusalsChangeNothing        a refused call leaves all as it was
 --   Promises                       all of these together
-use Rattle.std.specs.Prelude.{◌≡◌, ℕ, zero, suc, ◌+◌, ◌<◌, ◌≤◌, true, ◌↔◌, List, [], ◌∷◌, length, Some, ◌≢◌, slice_index_or}
+use Rattle.std.specs.Prelude.{◌≡◌, ℕ, zero, suc, ◌+◌, ◌<◌, ◌≤◌, true, ◌↔◌, List, [], ◌∷◌, length, Some, Ok, Err, ◌≢◌, slice_index_or}
+use Rattle.meaning.specs.declared.refusal.Reason.TheVariants.{TablesDisagree}
 use Rattle.meaning.specs.declared.refusal.Refusal.{Refusal}
 use Rattle.meaning.specs.Control.{Control}
 use Rattle.meaning.specs.Scheduling.{Scheduling}
@@ -23,8 +24,8 @@ use Rattle.tables.specs.declared.stream.Stream.{Stream}
 use Rattle.grant_calls.specs.declared.polling.Polled.TheVariants.{Granted}
 use Rattle.manager.specs.declared.call.Call.{Call}
 use Rattle.manager.specs.declared.call.Call.TheVariants.{Poll, Expire}
-use Rattle.manager.specs.declared.call.Answer.{Answer}
-use Rattle.manager.specs.declared.call.Answer.TheVariants.{Done, Polled, Refused}
+use Rattle.manager.specs.Answers.{Answer}
+use Rattle.manager.specs.declared.call.Told.TheVariants.{Done, Polled}
 use Rattle.manager.specs.State.{State}
 use Rattle.law.specs.Effects.{slot_of, bytes_of, effect}
 use Rattle.law.specs.Slots.{is_open, place, requests, grants, since_opening, granted, charged, unused, returned, expired, received, lost, outstanding, abandoned}
@@ -47,7 +48,7 @@ abbrev pub call : {C S : Type 0} → Run C S → ℕ → Call
 call r n = slice_index_or r.calls n (Expire 0)
 
 abbrev pub answer : {C S : Type 0} → Run C S → ℕ → Answer
-answer r n = slice_index_or r.answers n Done
+answer r n = slice_index_or r.answers n (Ok Done)
 
 abbrev pub so_far : {C S : Type 0} → Run C S → ℕ → History
 so_far r zero = []
@@ -61,7 +62,7 @@ abbrev pub IsMoment : {C S : Type 0} → Run C S → ℕ → Type 0
 IsMoment r n = n ≤ length r.calls
 
 abbrev pub Issues : Answer → Type 0
-Issues a = (g : ℕ) × (a ≡ Polled (Granted g))
+Issues a = (g : ℕ) × (a ≡ Ok (Polled (Granted g)))
 
 abbrev pub InOrder : History → ℕ → Type 0
 InOrder h t = (last_time h ≤ t) × (t ≤ 1000000000000000)
@@ -85,7 +86,7 @@ module _ {C S : Type 0} (k : Control C) (r : Run C S) where
 module _ {C S : Type 0} (k : Control C) (d : Scheduling S) (r : Run C S) where
   abbrev pub GrantsGoToThePick : Type 0
   GrantsGoToThePick =
-      (n t f g : ℕ) → IsCall r n → call r n ≡ Poll t f → answer r n ≡ Polled (Granted g)
+      (n t f g : ℕ) → IsCall r n → call r n ≡ Poll t f → answer r n ≡ Ok (Polled (Granted g))
       → (g ≡ issued (so_far r n))
       × (bytes_of (r.held (suc n)).rows g ≡ k.packet (controller k r.controllers (so_far r n) f))
       × (d.chosen (scheduler d r.schedulers (so_far r n) f) ≡ Some (slot_of (r.held (suc n)).rows g))
@@ -126,10 +127,10 @@ module _ {C S : Type 0} (r : Run C S) where
   RecordsAgree = (n i : ℕ) (x : Stream) → IsMoment r n → i < 32 → Tells (slice_index_or (r.held n).core.streams i x) (so_far r n) i
 
   abbrev pub TablesAreSound : Type 0
-  TablesAreSound = (n : ℕ) (e : Refusal) → IsCall r n → answer r n ≡ Refused e → e.number ≢ 1
+  TablesAreSound = (n : ℕ) (e : Refusal) → IsCall r n → answer r n ≡ Err e → e.reason ≢ TablesDisagree
 
   abbrev pub RefusalsChangeNothing : Type 0
-  RefusalsChangeNothing = (n : ℕ) (e : Refusal) → IsCall r n → answer r n ≡ Refused e → r.held (suc n) ≡ r.held n
+  RefusalsChangeNothing = (n : ℕ) (e : Refusal) → IsCall r n → answer r n ≡ Err e → r.held (suc n) ≡ r.held n
 
 -- through any stretch of moments in which a slot waits in a macroflow and gets no grant, no more grants than the
 -- macroflow's bound go to others there

@@ -9,7 +9,7 @@ use Rattle.tables.specs.declared.core_state.Core.{Core}
 use Rattle.tables.specs.declared.row.Row.{Row}
 use Rattle.tables.specs.Core.{fresh}
 use Rattle.manager.specs.declared.call.Call.{Call}
-use Rattle.manager.specs.declared.call.Answer.{Answer}
+use Rattle.manager.specs.Answers.{Answer}
 use Rattle.manager.specs.State.{State, state}
 use Rattle.manager.specs.Steps.{after}
 use Rattle.law.specs.Law.{Run}

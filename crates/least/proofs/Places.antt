@@ -1,70 +1,49 @@
 -- The first least place as a function is the first least place as a fact, and there is one only.
 use Rattle.std.proofs.Common.{◌≡◌, ℕ, zero, suc, ◌<◌, Bool, true, false, cond, List, [], ◌∷◌, length, get_or, Some, None, Option, sym, refl, ap, ◌∙◌, ⊎_elim, arith}
 use Rattle.std.proofs.lemmas.List.{get_or_default}
-use Rattle.std.proofs.lemmas.Bool.{cases_order, both_ways}
+use Rattle.std.proofs.lemmas.Bool.{cases_Bool, cases_order, both_ways}
 use Rattle.least.specs.Order.{Order, Least, shifted, against, first_least}
-use Rattle.least.proofs.Steps.{upto_self}
+
+upto_self : {X : Type 0} {upto : X → X → Bool} → Order upto → (x : X) → upto x x ≡ true
+upto_self {upto = upto} o x = ⊎_elim (λ t. t) (λ f. o.either x x f) (cases_Bool (upto x x))
+
+-- what holds at place 0, and at each place after one that is below n, holds below suc n
+front : {X : Type 0} {n : ℕ} (P : ℕ → X → Type 0) → ((d : X) → P 0 d) → ((k : ℕ) (d : X) → k < n → P (suc k) d) → (k : ℕ) (d : X) → k < suc n → P k d
+front P here later zero d h = here d
+front P here later (suc k) d h = later k d (omega arith)
 
 module _ {X : Type 0} (takes : X → Bool) (upto : X → X → Bool) where
   abbrev Whole : List X → Option ℕ → Type 0
   Whole xs r = Least takes upto xs (length xs) r
 
-  no_new : (x : X) (xs : List X) → takes x ≡ false → Whole xs None → (k : ℕ) (d : X) → k < suc (length xs) → takes (get_or (x ∷ xs) k d) ≡ false
-  no_new x xs f p zero d h = f
-  no_new x xs f p (suc k) d h = p k d (omega arith)
-
-  skip_least : (x : X) (xs : List X) (b : ℕ) → takes x ≡ false → Whole xs (Some b) → (k : ℕ) (d : X) → k < suc (length xs) → takes (get_or (x ∷ xs) k d) ≡ true → upto (get_or xs b d) (get_or (x ∷ xs) k d) ≡ true
-  skip_least x xs b f p zero d h t = absurd (both_ways (takes x) f t)
-  skip_least x xs b f p (suc k) d h t = p.least k d (omega arith) t
-
-  skip_first : (x : X) (xs : List X) (b : ℕ) → takes x ≡ false → Whole xs (Some b) → (k : ℕ) (d : X) → k < suc b → takes (get_or (x ∷ xs) k d) ≡ true → upto (get_or (x ∷ xs) k d) (get_or xs b d) ≡ false
-  skip_first x xs b f p zero d h t = absurd (both_ways (takes x) f t)
-  skip_first x xs b f p (suc k) d h t = p.first k d (omega arith) t
-
   skips : (x : X) (xs : List X) (r : Option ℕ) → takes x ≡ false → Whole xs r → Whole (x ∷ xs) (shifted r)
-  skips x xs None f p = no_new x xs f p
+  skips x xs None f p = front _ (λ d. f) p
   skips x xs (Some b) f p = record {
     within = omega (arith, p.within);
     takes_part = λ d. p.takes_part d;
-    least = skip_least x xs b f p;
-    first = skip_first x xs b f p;
+    least = front _ (λ d t. absurd (both_ways (takes x) f t)) p.least;
+    first = front _ (λ d t. absurd (both_ways (takes x) f t)) p.first;
   }
-
-  alone : Order upto → (x : X) (xs : List X) → Whole xs None → (k : ℕ) (d : X) → k < suc (length xs) → takes (get_or (x ∷ xs) k d) ≡ true → upto x (get_or (x ∷ xs) k d) ≡ true
-  alone o x xs p zero d h t = upto_self o x
-  alone o x xs p (suc k) d h t = absurd (both_ways (takes (get_or xs k d)) (p k d (omega arith)) t)
-
-  beats_rest : Order upto → (x : X) (xs : List X) (b : ℕ) → Whole xs (Some b) → upto x (get_or xs b x) ≡ true → (k : ℕ) (d : X) → k < suc (length xs) → takes (get_or (x ∷ xs) k d) ≡ true → upto x (get_or (x ∷ xs) k d) ≡ true
-  beats_rest o x xs b p u zero d h t = upto_self o x
-  beats_rest o x xs b p u (suc k) d h t = o.passed_on x (get_or xs b d) (get_or xs k d) (rw (get_or_default xs b d x p.within) u) (p.least k d (omega arith) t)
-
-  stays_least : Order upto → (x : X) (xs : List X) (b : ℕ) → Whole xs (Some b) → upto x (get_or xs b x) ≡ false → (k : ℕ) (d : X) → k < suc (length xs) → takes (get_or (x ∷ xs) k d) ≡ true → upto (get_or xs b d) (get_or (x ∷ xs) k d) ≡ true
-  stays_least o x xs b p u zero d h t = o.either x (get_or xs b d) (rw (get_or_default xs b d x p.within) u)
-  stays_least o x xs b p u (suc k) d h t = p.least k d (omega arith) t
-
-  stays_first : (x : X) (xs : List X) (b : ℕ) → Whole xs (Some b) → upto x (get_or xs b x) ≡ false → (k : ℕ) (d : X) → k < suc b → takes (get_or (x ∷ xs) k d) ≡ true → upto (get_or (x ∷ xs) k d) (get_or xs b d) ≡ false
-  stays_first x xs b p u zero d h t = rw (get_or_default xs b d x p.within) u
-  stays_first x xs b p u (suc k) d h t = p.first k d (omega arith) t
 
   meets : Order upto → (x : X) (xs : List X) (b : ℕ) → takes x ≡ true → Whole xs (Some b) → (u : Bool) → upto x (get_or xs b x) ≡ u → Whole (x ∷ xs) (cond u (Some 0) (Some (suc b)))
   meets o x xs b t p true u = record {
     within = omega arith;
     takes_part = λ d. t;
-    least = beats_rest o x xs b p u;
+    least = front _ (λ d h. upto_self o x) (λ k d h s. o.passed_on x (get_or xs b d) (get_or xs k d) (rw (get_or_default xs b d x p.within) u) (p.least k d h s));
     first = λ k d h _. absurd (omega arith);
   }
   meets o x xs b t p false u = record {
     within = omega (arith, p.within);
     takes_part = λ d. p.takes_part d;
-    least = stays_least o x xs b p u;
-    first = stays_first x xs b p u;
+    least = front _ (λ d h. o.either x (get_or xs b d) (rw (get_or_default xs b d x p.within) u)) p.least;
+    first = front _ (λ d h. rw (get_or_default xs b d x p.within) u) p.first;
   }
 
   joins : Order upto → (x : X) (xs : List X) (r : Option ℕ) → takes x ≡ true → Whole xs r → Whole (x ∷ xs) (against upto x xs r)
   joins o x xs None t p = record {
     within = omega arith;
     takes_part = λ d. t;
-    least = alone o x xs p;
+    least = front _ (λ d h. upto_self o x) (λ k d h s. absurd (both_ways (takes (get_or xs k d)) (p k d h) s));
     first = λ k d h _. absurd (omega arith);
   }
   joins o x xs (Some b) t p = meets o x xs b t p (upto x (get_or xs b x)) refl

@@ -1,7 +1,7 @@
 //! One search for the first record by a total order, over a lent slice.
 #![tactic(auto)]
 
-ghost use Rattle.std.specs.Prelude.{◌≡◌, ℕ, suc, ◌<◌, Bool, true, length, take};
+ghost use Rattle.std.specs.Prelude.{◌≡◌, ℕ, suc, ◌<◌, Bool, true, length, take, slice_index_or};
 ghost use Rattle.least.specs.Order.{Order, Least, first_least};
 
 /// Who of some records takes part in a search, and in which order they come.
@@ -25,24 +25,22 @@ pub trait Ranking<T> {
 }
 
 /// The best of the first `i` records, and then of one record more.
-fn step<T, R: Ranking<T>>(by: &R, records: &[T], i: usize, best: Option<usize>) -> Option<usize>
+fn step<T, R: Ranking<T>>(
+    by: &R,
+    records: &[T],
+    i: usize,
+    one: &T,
+    best: Option<usize>,
+) -> Option<usize>
     requires within { i < length records.now }
+    requires read { one.now ≡ slice_index_or records.now i one.now }
     requires so_far { Least (R.takes by.now) (R.upto by.now) records.now i best }
     ensures { Least (R.takes by.now) (R.upto by.now) records.now (suc i) result }
 {
-    let one = &records[i];
-    if !by.takes_part(one) {
-        return best;
-    }
     match best {
-        None => Some(i),
-        Some(b) => {
-            if by.no_later(&records[b], one) {
-                best
-            } else {
-                Some(i)
-            }
-        }
+        _ if !by.takes_part(one) => best,
+        Some(b) if by.no_later(&records[b], one) => best,
+        _ => Some(i),
     }
 }
 
@@ -53,8 +51,8 @@ pub fn least<T, R: Ranking<T>>(by: &R, records: &[T]) -> Option<usize>
     ensures place { result ≡ first_least (R.takes by.now) (R.upto by.now) records.now }
 {
     let mut best = None;
-    for i in 0..records.len() {
-        best = step(by, records, i, best);
+    for (i, one) in records.iter().enumerate() {
+        best = step(by, records, i, one, best);
     }
     best
 }
@@ -64,8 +62,5 @@ pub fn least_of_first<T, R: Ranking<T>>(by: &R, records: &[T], count: usize) -> 
     ensures least { Least (R.takes by.now) (R.upto by.now) (take count records.now) (length (take count records.now)) result }
     ensures place { result ≡ first_least (R.takes by.now) (R.upto by.now) (take count records.now) }
 {
-    if count >= records.len() {
-        return least(by, records);
-    }
-    least(by, &records[0..count])
+    least(by, &records[..count.min(records.len())])
 }

@@ -1,4 +1,5 @@
 pub mod State
 pub mod Making
 pub mod Tickets
+pub mod Answers
 pub mod Steps

@@ -1,12 +1,12 @@
 -- The plain manager over one call, whichever it is, and over a list of calls. Assumes nothing.
 --   Stepped C S            an answer, and the state after it
---   done, polled, taken_up, expired   what a call answered, as an answer
+--   telling f r            the answer r of one of the calls as such an answer
+--   done, polled, taken_up, expired   that of a call that tells nothing, of a poll, a take-up and an expiry
 --   of-…                   the tables that a call was not lent stay
 --   step k d s call        what the call answers, and the state after it
 --   goes, says             that state, and that answer
 --   after k d s calls      the state after the calls, each of which finds all as the last left it
 --   answers k d s calls    their answers
---   WhenRefused a P       P, if the answer a is a refusal
 use Rattle.std.specs.Prelude.{ℕ, List, [], ◌∷◌, Ok, Err, Option, Result}
 use Rattle.meaning.specs.declared.refusal.Refusal.{Refusal}
 use Rattle.meaning.specs.Control.{Control}
@@ -21,8 +21,9 @@ use Rattle.grant_calls.specs.Polls.{poll}
 use Rattle.grant_calls.specs.Grants.{take_up, settle, expire}
 use Rattle.manager.specs.declared.call.Call.{Call}
 use Rattle.manager.specs.declared.call.Call.TheVariants.{Open, Request, Poll, TakeUp, Settle, Expire, Report, Move, Merge, Close}
-use Rattle.manager.specs.declared.call.Answer.{Answer}
-use Rattle.manager.specs.declared.call.Answer.TheVariants.{Done, Polled as Told, TakenUp, Expired, Refused}
+use Rattle.manager.specs.declared.call.Told.{Told}
+use Rattle.manager.specs.declared.call.Told.TheVariants.{Done, Polled as PolledTo, TakenUp, Expired}
+use Rattle.manager.specs.Answers.{Answer}
 use Rattle.manager.specs.State.{State, state}
 
 pub record Stepped (C S : Type 0) : Type 0 where
@@ -32,21 +33,22 @@ pub record Stepped (C S : Type 0) : Type 0 where
 abbrev pub stepped : {C S : Type 0} → Answer → State C S → Stepped C S
 stepped a s = record { answer = a; state = s }
 
+-- the answer of a call: what it tells where it was accepted, by f
+abbrev pub telling : {A : Type 0} → (A → Told) → Result A Refusal → Answer
+telling f (Ok x) = Ok (f x)
+telling f (Err e) = Err e
+
 abbrev pub done : Result (Unit {0}) Refusal → Answer
-done (Ok _) = Done
-done (Err e) = Refused e
+done r = telling (λ _. Done) r
 
 abbrev pub polled : Result Polled Refusal → Answer
-polled (Ok p) = Told p
-polled (Err e) = Refused e
+polled r = telling PolledTo r
 
 abbrev pub taken_up : Result ℕ Refusal → Answer
-taken_up (Ok g) = TakenUp g
-taken_up (Err e) = Refused e
+taken_up r = telling TakenUp r
 
 abbrev pub expired : Result (Option ℕ) Refusal → Answer
-expired (Ok o) = Expired o
-expired (Err e) = Refused e
+expired r = telling Expired r
 
 module _ {C S : Type 0} (s : State C S) where
   abbrev pub of_open : Reply (Result (Unit {0}) Refusal) (Unit {0}) → Stepped C S
@@ -88,10 +90,3 @@ module _ {C S : Type 0} (k : Control C) (d : Scheduling S) where
 
   abbrev pub answers : State C S → List Call → List Answer
   answers s calls = all_said goes says s calls
-
-abbrev pub WhenRefused : Answer → Type 0 → Type 0
-WhenRefused Done P = Unit {0}
-WhenRefused (Told p) P = Unit {0}
-WhenRefused (TakenUp g) P = Unit {0}
-WhenRefused (Expired o) P = Unit {0}
-WhenRefused (Refused e) P = P

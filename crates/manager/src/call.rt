@@ -64,17 +64,18 @@ pub enum Call {
     },
 }
 
-/// What a call was answered.
-#[derive(Clone, Copy)]
-pub enum Answer {
-    /// It was accepted, and tells nothing more.
+/// What a call tells that was accepted.
+#[derive(Clone, Copy, PartialEq, Eq, Debug)]
+pub enum Told {
+    /// Nothing more than that it was accepted.
     Done,
-    /// A poll was accepted, and came to this.
+    /// A poll came to this.
     Polled(Polled),
     /// The grant with this number was taken up.
     TakenUp(usize),
     /// The grant with this number expired, or none was due.
     Expired(Option<usize>),
-    /// The call was refused, and nothing changed.
-    Refused(Refusal),
 }
+
+/// What a call is answered: what it tells, or why it was refused.
+pub type Answer = Result<Told, Refusal>;

@@ -1,4 +1,5 @@
-//! The calls about grants.
+//! The calls about grants: those of `grant_calls` on the manager's own core. Each contract is said again,
+//! since nobody else can reach the core.
 ghost use Rattle.std.specs.Prelude.{◌≡◌, OnErr};
 ghost use Rattle.tables.specs.Replies.{reply};
 ghost use Rattle.grant_calls.specs.Grants.{take_up as take_up_call, settle as settle_call, expire as expire_call};

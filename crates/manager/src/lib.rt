@@ -9,6 +9,6 @@ mod stepping;
 mod streaming;
 mod ticket;
 
-pub use call::{Answer, Call};
+pub use call::{Answer, Call, Told};
 pub use manager_state::Manager;
 pub use ticket::Ticket;

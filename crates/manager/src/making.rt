@@ -3,7 +3,7 @@ ghost use Rattle.std.specs.Prelude.{◌≡◌, length};
 ghost use Rattle.manager.specs.Making.{is_idle, all_idle, core_of, made};
 
 use crate::manager_state::Manager;
-use meaning::{Controller, Refusal, Scheduler};
+use meaning::{Controller, Reason, Refusal, Scheduler};
 use tables::{Core, Row, SLOTS, Stream};
 
 /// The most macroflows of a manager.
@@ -16,24 +16,14 @@ const MAX_ROWS: usize = 65_536;
 fn is_idle<S: Scheduler>(scheduler: &S) -> bool
     ensures { result ≡ is_idle S.scheduling scheduler.now }
 {
-    for slot in 0..SLOTS {
-        if scheduler.is_waiting(slot) {
-            return false;
-        }
-    }
-    true
+    (0..SLOTS).all(|slot| !scheduler.is_waiting(slot))
 }
 
 /// Whether no slot waits in any of the schedulers.
 fn all_idle<S: Scheduler>(schedulers: &[S]) -> bool
     ensures { result ≡ all_idle S.scheduling schedulers.now }
 {
-    for macroflow in 0..schedulers.len() {
-        if !is_idle(&schedulers[macroflow]) {
-            return false;
-        }
-    }
-    true
+    schedulers.iter().all(|scheduler| is_idle(scheduler))
 }
 
 impl Manager {
@@ -47,22 +37,17 @@ impl Manager {
     ) -> Result<Manager, Refusal>
         ensures { core_of result ≡ made S.scheduling macroflows (length controllers.now) schedulers.now (length rows.now) }
     {
-        if macroflows < 1
-            || macroflows > MAX_MACROFLOWS
+        if !(1..=MAX_MACROFLOWS).contains(&macroflows)
             || rows.len() > MAX_ROWS
             || controllers.len() != macroflows
             || schedulers.len() != macroflows
             || !all_idle(schedulers)
         {
-            return Err(Refusal {
-                number: 19,
-                slot: None,
-                macroflow: None,
-            });
+            return Err(Reason::CannotBeMade.into());
         }
         Ok(Manager {
             core: Core {
-                streams: [Stream::closed(); 32],
+                streams: [Stream::closed(); SLOTS],
                 macroflows,
                 capacity: rows.len(),
                 issued: 0,

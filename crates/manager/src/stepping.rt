@@ -1,56 +1,16 @@
 //! One call of a list of calls, whichever it is.
-ghost use Rattle.std.specs.Prelude.{◌≡◌};
+ghost use Rattle.std.specs.Prelude.{◌≡◌, OnErr};
 ghost use Rattle.manager.specs.State.{state};
-ghost use Rattle.manager.specs.Steps.{stepped, step, done as done_answer, polled as polled_answer, taken_up as taken_up_answer, expired as expired_answer, WhenRefused};
+ghost use Rattle.manager.specs.Steps.{stepped, step};
 
-use crate::call::{Answer, Call};
+use crate::call::{Answer, Call, Told};
 use crate::manager_state::Manager;
-use grant_calls::Polled;
-use meaning::{Controller, Refusal, Scheduler};
+use meaning::{Controller, Scheduler};
 use tables::Row;
 
-/// The answer of a call that tells nothing but that it was accepted.
-fn done(res: Result<(), Refusal>) -> Answer
-    ensures { result ≡ done_answer res }
-{
-    match res {
-        Ok(()) => Answer::Done,
-        Err(refusal) => Answer::Refused(refusal),
-    }
-}
-
-/// The answer of a poll.
-fn polled(res: Result<Polled, Refusal>) -> Answer
-    ensures { result ≡ polled_answer res }
-{
-    match res {
-        Ok(polled) => Answer::Polled(polled),
-        Err(refusal) => Answer::Refused(refusal),
-    }
-}
-
-/// The answer of a take-up.
-fn taken_up(res: Result<usize, Refusal>) -> Answer
-    ensures { result ≡ taken_up_answer res }
-{
-    match res {
-        Ok(grant) => Answer::TakenUp(grant),
-        Err(refusal) => Answer::Refused(refusal),
-    }
-}
-
-/// The answer of an expiry.
-fn expired(res: Result<Option<usize>, Refusal>) -> Answer
-    ensures { result ≡ expired_answer res }
-{
-    match res {
-        Ok(grant) => Answer::Expired(grant),
-        Err(refusal) => Answer::Refused(refusal),
-    }
-}
-
 impl Manager {
-    /// Carries out a call that is given as a value.
+    /// Carries out a call that is given as a value. A `match` and no closures: calls are the host's data,
+    /// and the law speaks of them.
     ///
     /// A grant that is taken up so is marked, and its number is answered in the place of a ticket: it
     /// is settled by its number.
@@ -62,7 +22,7 @@ impl Manager {
         call: Call,
     ) -> Answer
         ensures plain { stepped result (state self.new.core controllers.new schedulers.new rows.new) ≡ step C.control S.scheduling (state self.old.core controllers.old schedulers.old rows.old) call }
-        ensures refused { WhenRefused result ((self.new ≡ self.old) × (controllers.new ≡ controllers.old) × (schedulers.new ≡ schedulers.old) × (rows.new ≡ rows.old)) }
+        ensures refused { OnErr result ((self.new ≡ self.old) × (controllers.new ≡ controllers.old) × (schedulers.new ≡ schedulers.old) × (rows.new ≡ rows.old)) }
     {
         match call {
             Call::Open {
@@ -71,35 +31,40 @@ impl Manager {
                 macroflow,
                 weight,
                 life,
-            } => done(self.open(time, slot, macroflow, weight, life)),
-            Call::Request { time, slot } => done(self.request(schedulers, time, slot)),
-            Call::Poll { time, macroflow } => polled(self.poll(
-                controllers,
-                schedulers,
-                rows,
-                time,
-                macroflow,
-            )),
-            Call::TakeUp { time, grant } => taken_up(grant_calls::take_up(
-                &mut self.core,
-                rows,
-                time,
-                grant,
-            )),
-            Call::Settle { time, grant, sent } => done(self.settle(rows, time, grant, sent)),
-            Call::Expire { time } => expired(self.expire(rows, time)),
+            } => self
+                .open(time, slot, macroflow, weight, life)
+                .map(|()| Told::Done),
+            Call::Request { time, slot } => self
+                .request(schedulers, time, slot)
+                .map(|()| Told::Done),
+            Call::Poll { time, macroflow } => self
+                .poll(controllers, schedulers, rows, time, macroflow)
+                .map(Told::Polled),
+            Call::TakeUp { time, grant } => {
+                grant_calls::take_up(&mut self.core, rows, time, grant).map(Told::TakenUp)
+            }
+            Call::Settle { time, grant, sent } => self
+                .settle(rows, time, grant, sent)
+                .map(|()| Told::Done),
+            Call::Expire { time } => self.expire(rows, time).map(Told::Expired),
             Call::Report {
                 time,
                 slot,
                 feedback,
-            } => done(self.report(controllers, time, slot, feedback)),
+            } => self
+                .report(controllers, time, slot, feedback)
+                .map(|()| Told::Done),
             Call::Move {
                 time,
                 slot,
                 macroflow,
-            } => done(self.move_to(schedulers, time, slot, macroflow)),
-            Call::Merge { time, from, into } => done(self.merge(schedulers, time, from, into)),
-            Call::Close { time, slot } => done(self.close(schedulers, time, slot)),
+            } => self
+                .move_to(schedulers, time, slot, macroflow)
+                .map(|()| Told::Done),
+            Call::Merge { time, from, into } => self
+                .merge(schedulers, time, from, into)
+                .map(|()| Told::Done),
+            Call::Close { time, slot } => self.close(schedulers, time, slot).map(|()| Told::Done),
         }
     }
 }

@@ -1,4 +1,5 @@
-//! The calls about streams.
+//! The calls about streams: those of `stream_calls` on the manager's own core. Each contract is said
+//! again, since nobody else can reach the core.
 ghost use Rattle.std.specs.Prelude.{◌≡◌, OnErr};
 ghost use Rattle.tables.specs.Replies.{reply};
 ghost use Rattle.stream_calls.specs.Calls.{«open» as open_call, request as request_call, report as report_call, move_to as move_call, close as close_call, standing as standing_call, quietest as quietest_call};

@@ -1,5 +1,4 @@
 pub mod AnyBelow
-pub mod Below
 pub mod Estimates
 pub mod Hearing
 pub mod PicksInARow

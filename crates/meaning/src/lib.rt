@@ -14,6 +14,6 @@ pub use controller::{Controller, tell_all};
 pub use limits::{MAX_ALLOWANCE, MAX_PACKET, MIN_PACKET};
 pub use path::PathEstimate;
 pub use picking::next_picks;
-pub use refusal::Refusal;
+pub use refusal::{Reason, Refusal};
 pub use report::{Mode, Report};
 pub use scheduler::Scheduler;

@@ -1,33 +1,36 @@
 //! What a controller is told of its path.
 ghost use Rattle.std.specs.Prelude.{◌≡◌};
-ghost use Rattle.meaning.specs.Reports.{mode_numbered, heard as heard_mode};
+ghost use Rattle.meaning.specs.Reports.{decoded, heard as heard_mode};
 
 use crate::path::PathEstimate;
+use crate::refusal::Reason;
 
 /// How the packets fared that a report is about.
 #[derive(Clone, Copy, PartialEq, Eq, Debug)]
 pub enum Mode {
     /// All of them came through (number 0).
-    Clear,
+    Clear = 0,
     /// Some were lost (number 1).
-    Loss,
+    Loss = 1,
     /// The network marked some of them as congested (number 2).
-    Mark,
+    Mark = 2,
     /// Nothing was heard of any of them (number 3).
-    Silence,
+    Silence = 3,
 }
 
-impl Mode {
-    /// The mode with this number, 0 to 3.
-    pub fn numbered(number: u64) -> Option<Mode>
-        ensures { result ≡ mode_numbered number }
-    {
+/// The mode with a number, 0 to 3. Any other number is out of range (refusal 14).
+impl TryFrom<u64> for Mode {
+    type Error = Reason;
+
+    ghost try_from_gives = { λ number outcome. outcome ≡ decoded number };
+
+    fn try_from(number: u64) -> Result<Mode, Reason> {
         match number {
-            0 => Some(Mode::Clear),
-            1 => Some(Mode::Loss),
-            2 => Some(Mode::Mark),
-            3 => Some(Mode::Silence),
-            _ => None,
+            0 => Ok(Mode::Clear),
+            1 => Ok(Mode::Loss),
+            2 => Ok(Mode::Mark),
+            3 => Ok(Mode::Silence),
+            _ => Err(Reason::ModeOrSample),
         }
     }
 }
@@ -39,7 +42,7 @@ pub struct Report {
     pub received: u64,
     /// Bytes that were lost.
     pub lost: u64,
-    /// The number of the mode.
+    /// The number of the mode: a number and not a `Mode`, since a host may send any.
     pub mode: u64,
     /// A round-trip sample in microseconds, where one was taken.
     pub sample: Option<u64>,
@@ -59,17 +62,14 @@ impl Report {
     pub fn heard(&self) -> Option<Mode>
         ensures { result ≡ heard_mode self.now }
     {
-        if self.received >= AMOUNT_LIMIT
-            || self.lost >= AMOUNT_LIMIT
-            || self.flight >= AMOUNT_LIMIT
+        if self.received < AMOUNT_LIMIT
+            && self.lost < AMOUNT_LIMIT
+            && self.flight < AMOUNT_LIMIT
+            && self.sample.is_none_or(PathEstimate::is_sample)
         {
-            return None;
+            Mode::try_from(self.mode).ok()
+        } else {
+            None
         }
-        if let Some(micros) = self.sample
-            && !PathEstimate::is_sample(micros)
-        {
-            return None;
-        }
-        Mode::numbered(self.mode)
     }
 }

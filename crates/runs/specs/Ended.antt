@@ -2,9 +2,10 @@
 --   can_be_made   whether a manager can be made of what the host lends
 --   Ended         with the answers and the tables of the plain manager; or refused at making, or without memory, with nothing changed
 use Rattle.std.specs.Prelude.{◌≡◌, ℕ, Bool, true, false, List, length, Ok, Err, vec_items, Result}
+use Rattle.meaning.specs.declared.refusal.Reason.TheVariants as reason
 use Rattle.meaning.specs.Control.{Control}
 use Rattle.meaning.specs.Scheduling.{Scheduling}
-use Rattle.tables.specs.Core.{about_nothing}
+use Rattle.meaning.specs.Refusals.{about_nothing}
 use Rattle.manager.specs.declared.call.Call.{Call}
 use Rattle.manager.specs.Steps.{after, answers}
 use Rattle.manager.specs.Making.{is_ready}
@@ -22,5 +23,5 @@ module _ {C S : Type 0} (k : Control C) (d : Scheduling S) (f : ℕ) (before : L
       (can_be_made ≡ true)
       × (vec_items o.answers ≡ answers k d (start f before) calls)
       × (held_with o.manager.core now ≡ after k d (start f before) calls)
-  Ended (Err (Refused e)) now = (can_be_made ≡ false) × (e ≡ about_nothing 19) × (now ≡ before)
+  Ended (Err (Refused e)) now = (can_be_made ≡ false) × (e ≡ about_nothing reason.CannotBeMade) × (now ≡ before)
   Ended (Err NoMemory) now = (can_be_made ≡ true) × (now ≡ before)

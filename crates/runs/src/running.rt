@@ -39,7 +39,8 @@ fn carry_out<C: Controller, S: Scheduler>(
 /// the run (`held`). Whatever the controllers, the schedulers and the calls are, the run keeps every
 /// sentence of `Promises`: polls issue exactly when they should, the books balance, a grant ends once
 /// and its row stays, who waits is served within the scheduler's bound, no table is ever found at
-/// odds, and a refused call changes nothing.
+/// odds, and a refused call changes nothing. The clauses are written out, and not put into one word,
+/// so that they are read here whole.
 pub fn run<C: Controller, S: Scheduler>(
     heap: Global,
     macroflows: usize,
@@ -52,24 +53,15 @@ pub fn run<C: Controller, S: Scheduler>(
     ensures held { IfOk result (λ o. (run_of C.control S.scheduling macroflows (lent controllers.old schedulers.old rows.old) calls.now o.answers.items).held (length calls.now) ≡ held_with o.manager.core (lent controllers.new schedulers.new rows.new)) }
     ensures promises { IfOk result (λ o. Promises C.control S.scheduling (run_of C.control S.scheduling macroflows (lent controllers.old schedulers.old rows.old) calls.now o.answers.items)) }
 {
-    let mut manager = match Manager::new(macroflows, controllers, schedulers, rows) {
-        Ok(manager) => manager,
-        Err(refusal) => return Err(RunError::Refused(refusal)),
-    };
-    let mut given = match Vec::with_capacity(heap, calls.len()) {
-        Ok(given) => given,
-        Err(_) => return Err(RunError::NoMemory),
-    };
+    let mut manager = Manager::new(macroflows, controllers, schedulers, rows)?;
+    let mut answers = Vec::with_capacity(heap, calls.len())?;
     carry_out(
         &mut manager,
         controllers,
         schedulers,
         rows,
         calls,
-        &mut given,
+        &mut answers,
     );
-    Ok(Outcome {
-        manager,
-        answers: given,
-    })
+    Ok(Outcome { manager, answers })
 }

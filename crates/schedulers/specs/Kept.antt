@@ -10,25 +10,23 @@
 --   turned_sound        and after a pick
 --   all_zero            no place of a fresh state has a weight
 --   fresh_sound         a fresh state is sound
-use Rattle.std.specs.Prelude.{◌≡◌, ℕ, zero, suc, ◌+◌, ◌-◌, ◌<◌, ◌≤◌, Bool, not, ◌&&◌, List, [], ◌∷◌, replicate, Some, None, Option, ◌==◌, nat_le, nat_lt, slice_index, slice_set, refl}
-use Rattle.std.proofs.Common.{◌∙◌, subst, arith, length-set}
+use Rattle.std.specs.Prelude.{◌≡◌, ℕ, zero, suc, ◌-◌, ◌<◌, ◌≤◌, not, ◌&&◌, List, [], ◌∷◌, replicate, Some, None, Option, nat_lt, slice_index, slice_set, refl}
+use Rattle.std.proofs.Common.{◌∙◌, arith, length-set}
 use Rattle.std.proofs.lemmas.List.{length-replicate}
-use Rattle.std.proofs.lemmas.Bool.{cond_both, and_parts, leb-true, eqb-false}
+use Rattle.std.proofs.lemmas.Bool.{cond_both}
+use Rattle.std.proofs.lemmas.Bool.Decides.{nat_tests}
 use Rattle.schedulers.specs.declared.state.RoundRobinState.{RoundRobinState}
 use Rattle.schedulers.specs.Sound.{Sound}
 use Rattle.schedulers.specs.Rule.{place_after, first_waiting, is_weight, waits, with_weight, raised, lowered, goes_on, next_waiting, spent, after_search, turned, fresh}
 
 pub place_after_below : (n p : ℕ) → p < n → place_after n p < n
-place_after_below n p h = cond_both (p + 1 == n) 0 (p + 1) (λ x. x < n) (λ e. omega arith) (λ e. omega (arith, eqb-false (p + 1) n e))
+place_after_below n p h = grind (arith, nat_tests)
 
 pub first_below : (ws : List ℕ) (n k p j : ℕ) → p ≤ n - 1 → k ≤ n → first_waiting ws n k p ≡ Some j → j < n
-first_below ws n zero p j h l e = let z : ◌≡◌ {A = ℕ} 0 1 = cc in omega arith
+first_below ws n zero p j h l e = cc
 first_below ws n (suc k) p j h l e =
     let below : place_after n p < n = place_after_below n p (omega arith) in
-    cond_both (nat_lt 0 (slice_index ws (place_after n p))) (Some (place_after n p)) (first_waiting ws n k (place_after n p)) (λ o. o ≡ Some j → j < n)
-    (λ b f. let q : place_after n p ≡ j = cc in subst (λ x. x < n) q below)
-    (λ b f. first_below ws n k (place_after n p) j (omega arith) (omega arith) f)
-    e
+    grind (arith, nat_tests, first_below ws n k (place_after n p) j (omega arith) (omega arith))
 
 set_most : (xs : List ℕ) (i w b : ℕ) → w ≤ b → ((k : ℕ) → slice_index xs k ≤ b) → (k : ℕ) → slice_index (slice_set xs i w) k ≤ b
 set_most [] i w b h all k = all k
@@ -43,9 +41,8 @@ module _ {N : ℕ} (s : RoundRobinState N) (sound : Sound N s) where
 
   pub raised_sound : (i w : ℕ) → Sound N (raised s i w)
   raised_sound i w =
-      let free : Bool = not (waits s i) in
-      cond_both (nat_lt i N && (free && is_weight w)) (with_weight s i w) s (λ x. Sound N x)
-      (λ e. with_weight_sound i w (leb-true w 8 (and_parts (nat_le 1 w) (nat_le w 8) (and_parts free (is_weight w) (and_parts (nat_lt i N) (free && is_weight w) e).1).1).1))
+      cond_both (nat_lt i N && (not (waits s i) && is_weight w)) (with_weight s i w) s (λ x. Sound N x)
+      (λ e. with_weight_sound i w (grind (arith, nat_tests)))
       (λ _. sound)
 
   pub lowered_sound : (i : ℕ) → Sound N (lowered s i)

@@ -1,13 +1,14 @@
 -- The patience of a place that waits falls with each pick of another, and has a bound.
-use Rattle.std.specs.Prelude.{◌≡◌, ℕ, zero, suc, ◌+◌, ◌-◌, ◌*◌, ◌%◌, ◌<◌, ◌≤◌, true, false, ◌⊎◌, Some, ◌≢◌, nat_lt, refl}
-use Rattle.std.proofs.Common.{◌∙◌, ap, subst, inl, inr, ⊎_elim, mod-eq_of_lt, arith}
+use Rattle.std.specs.Prelude.{◌≡◌, ℕ, zero, suc, ◌+◌, ◌-◌, ◌*◌, ◌%◌, ◌<◌, ◌≤◌, true, false, ◌⊎◌, Some, ◌≢◌, refl}
+use Rattle.std.proofs.Common.{◌∙◌, ap, inl, inr, ⊎_elim, mod-eq_of_lt, arith}
 use Rattle.std.proofs.Math.Nat.{add-mod_right, mod_self}
-use Rattle.std.proofs.lemmas.Bool.{and_parts, ltb-true, cases_lt, cases_order, both_ways}
+use Rattle.std.proofs.lemmas.Bool.{cases_lt, cases_order}
+use Rattle.std.proofs.lemmas.Bool.Decides.{nat_tests}
 use Rattle.schedulers.specs.declared.state.RoundRobinState.{RoundRobinState}
 use Rattle.schedulers.specs.Sound.{Sound}
 use Rattle.schedulers.specs.Rule.{weight_of, waits, goes_on, next_waiting, spent, taken_by, chosen, turned, patience_at, patience}
 use Rattle.schedulers.specs.Search.{distance, distance_is, distance_range, first_nearest}
-use Rattle.schedulers.specs.Steps.{on, by_pick, waits_weight, waits_below}
+use Rattle.schedulers.specs.Steps.{by_pick, waits_weight, waits_below}
 
 -- (i - p) mod n by the distance: 0 at p itself, else the distance
 remainder : (n p i : ℕ) → p < n → i < n → ((i ≡ p) × ((i + n - p) % n ≡ 0)) ⊎ ((i ≢ p) × ((i + n - p) % n ≡ distance n p i))
@@ -29,7 +30,7 @@ remainder n p i h l =
 
 patience_later : (n d c : ℕ) → 0 < d → patience_at n d c ≡ c + (d - 1) * 8
 patience_later n zero c h = absurd (omega arith)
-patience_later n (suc d) c h = let e : d ≡ suc d - 1 = omega arith in ap (λ x. c + x * 8) e
+patience_later n (suc d) c h = omega arith
 
 patience_now : (n c : ℕ) → ((0 < c) × (patience_at n 0 c ≡ 0)) ⊎ ((c ≡ 0) × (patience_at n 0 c ≡ (n - 1) * 8))
 patience_now n zero = inr (refl, refl)
@@ -70,7 +71,7 @@ module _ {N : ℕ} (s : RoundRobinState N) (sound : Sound N s) (j : ℕ) (waitin
   falls_again : (i : ℕ) → goes_on s ≡ true → Some s.turn ≡ Some i → (j ≢ i) → patience (spent s) j < patience s j
   falls_again i h e ne =
       let q : s.turn ≡ i = cc in
-      let l : 0 < s.credit = ltb-true 0 _ (and_parts (waits s s.turn) (nat_lt 0 s.credit) h).1 in
+      let l : 0 < s.credit = grind (arith, nat_tests) in
       let old = by_distance N s.turn j s.credit turn_below below in
       let new = by_distance N s.turn j (s.credit - 1) turn_below below in
       omega arith
@@ -82,8 +83,7 @@ module _ {N : ℕ} (s : RoundRobinState N) (sound : Sound N s) (j : ℕ) (waitin
       let through = distance_through N s.turn i j turn_below near.2 below nearer in
       let range = (distance_range N s.turn i turn_below near.2).0 in
       let most : weight_of s i ≤ 8 = sound.3 i in
-      let spent-or-other : (s.credit ≤ 0) ⊎ (j ≢ s.turn) =
-      ⊎_elim (λ (l : 0 < s.credit). inr (λ q. both_ways (goes_on s) h (on s (subst (λ x. 0 < weight_of s x) q (waits_weight s j waiting)) l))) (λ (l : s.credit ≤ 0). inl l) (cases_lt 0 s.credit) in
+      let spent-or-other : (s.credit ≤ 0) ⊎ (j ≢ s.turn) = grind (arith, nat_tests, waiting, cases_lt 0 s.credit) in
       let old = by_distance N s.turn j s.credit turn_below below in
       let new = by_distance N i j (weight_of s i - 1) near.2 below in
       omega arith
@@ -93,7 +93,7 @@ module _ {N : ℕ} (s : RoundRobinState N) (sound : Sound N s) (j : ℕ) (waitin
       by_pick s (λ o t. o ≡ Some i → patience t j < patience s j)
       (λ h f. falls_again i h f ne)
       (λ k h f q. let p : k ≡ i = cc in falls_found k h f (λ x. ne (x ∙ p)))
-      (λ h f q. absurd (let z : ◌≡◌ {A = ℕ} 0 1 = cc in omega arith))
+      (λ h f q. cc)
       e
 
   pub patience_bounded : patience s j ≤ (N - 1) * 8

@@ -5,6 +5,8 @@ ghost use Rattle.schedulers.specs.Lawful.{round_robin_laws};
 use crate::round_robin::RoundRobin;
 use meaning::Scheduler;
 
+/// Each method is that of `RoundRobin<N>`, which is there for any number of places; the trait is for 32.
+///
 /// A slot sees at most 31 × 8 = 248 picks of others before its own.
 impl Scheduler for RoundRobin<32> {
     ghost scheduling = { round_robin 32 };

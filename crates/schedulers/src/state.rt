@@ -1,7 +1,5 @@
 //! The plain state of a round robin.
 
-mod rule;
-
 /// The state of a weighted round robin over N places.
 #[derive(Clone, Copy)]
 pub struct RoundRobinState<const N: usize> {

@@ -3,23 +3,39 @@
 
 mod uplink;
 
+use farm::FateWord;
 use std::io;
-use tables::Fate;
 use uplink::{Denied, PACKET, Uplink};
 
-/// The slot of the sender of pitch records.
-const PITCH: usize = 0;
+/// A sender: the slot of its stream, what its records are of, and how many bytes of them it has.
+struct Sender {
+    slot: usize,
+    name: &'static str,
+    bytes: u64,
+}
 
-/// The slot of the sender of bearing records.
-const BEARING: usize = 1;
-
-/// The slot of the sender of brake records.
-const BRAKE: usize = 2;
+const SENDERS: [Sender; 3] = [
+    Sender {
+        slot: 0,
+        name: "pitch",
+        bytes: 612,
+    },
+    Sender {
+        slot: 1,
+        name: "bearing",
+        bytes: 240,
+    },
+    Sender {
+        slot: 2,
+        name: "brake",
+        bytes: 0,
+    },
+];
 
 /// Sends records of so many bytes for a slot, and answers the grant under which they went.
 ///
-/// A ticket is settled exactly once: the check refuses a sender that lets it go, and one that settles it
-/// twice.
+/// A ticket is settled exactly once: the check refuses a sender that lets it go, and one that
+/// settles it twice.
 fn send(uplink: &mut Uplink, slot: usize, bytes: u64) -> Result<usize, Denied> {
     let ticket = uplink.ask(slot)?;
     let grant = ticket.number();
@@ -27,57 +43,40 @@ fn send(uplink: &mut Uplink, slot: usize, bytes: u64) -> Result<usize, Denied> {
     Ok(grant)
 }
 
-/// What became of a grant, in a word.
-fn fate_word(fate: Fate) -> &'static str {
-    match fate {
-        Fate::Open => "open",
-        Fate::Charged => "charged",
-        Fate::Returned => "returned",
-        Fate::Expired => "expired",
-    }
-}
-
 /// Lets one sender send, and prints what the ledger says of it.
-fn run_sender(
-    rt: &impl Print,
-    uplink: &mut Uplink,
-    name: &str,
-    slot: usize,
-    bytes: u64,
-) -> io::Result<()> {
-    let grant = match send(uplink, slot, bytes) {
+fn run_sender(rt: &impl Print, uplink: &mut Uplink, sender: &Sender) -> io::Result<()> {
+    let name = sender.name;
+    print!(rt; "  {name}")?;
+    if sender.bytes == 0 {
+        print!(rt; ", nothing to send")?;
+    }
+    let grant = match send(uplink, sender.slot, sender.bytes) {
         Ok(grant) => grant,
-        Err(Denied::Full) => return println!(rt; "  {name}: no grant, the path is full"),
-        Err(Denied::Refused(refusal)) => {
-            let number = refusal.number;
-            return println!(rt; "  {name}: refused {number}");
+        Err(denied) => return println!(rt; ": {denied}"),
+    };
+    match uplink.row(grant) {
+        Some(row) => {
+            let (granted, sent, fate) = (row.granted, row.sent, FateWord(row.fate));
+            println!(rt; ": grant {grant}, {sent} of {granted} bytes sent, {fate}")
         }
-    };
-    let Some(row) = uplink.row(grant) else {
-        return println!(rt; "  {name}: no row");
-    };
-    let sent = row.sent;
-    let granted = row.granted;
-    let fate = fate_word(row.fate);
-    println!(rt; "  {name}: grant {grant}, {sent} of {granted} bytes sent, {fate}")
+        None => println!(rt; ": no row"),
+    }
 }
 
 /// Prints what was charged to a sender.
-fn print_charged(rt: &impl Print, uplink: &Uplink, name: &str, slot: usize) -> io::Result<()> {
-    match uplink.charged(slot) {
+fn print_charged(rt: &impl Print, uplink: &Uplink, sender: &Sender) -> io::Result<()> {
+    let name = sender.name;
+    match uplink.charged(sender.slot) {
         Ok(charged) => println!(rt; "  {name}: {charged} bytes charged"),
-        Err(refusal) => {
-            let number = refusal.number;
-            println!(rt; "  {name}: refused {number}")
-        }
+        Err(refusal) => println!(rt; "  {name}: {}", Denied::Refused(refusal)),
     }
 }
 
-/// An uplink that the three senders have joined.
+/// An uplink that the senders have joined.
 fn joined() -> Result<Uplink, Denied> {
     let mut uplink = Uplink::new()?;
-    for slot in [PITCH, BEARING, BRAKE] {
-        uplink.join(slot)?;
+    for sender in &SENDERS {
+        uplink.join(sender.slot)?;
     }
     Ok(uplink)
 }
@@ -87,11 +86,12 @@ fn main(rt: HostRuntime) -> io::Result<()> {
         return println!(rt; "The path was not made");
     };
     println!(rt; "Three senders of a turbine, packets of {PACKET} bytes")?;
-    run_sender(&rt, &mut uplink, "pitch", PITCH, 612)?;
-    run_sender(&rt, &mut uplink, "bearing", BEARING, 240)?;
-    run_sender(&rt, &mut uplink, "brake, nothing to send", BRAKE, 0)?;
+    for sender in &SENDERS {
+        run_sender(&rt, &mut uplink, sender)?;
+    }
     println!(rt; "In the records of the streams")?;
-    print_charged(&rt, &uplink, "pitch", PITCH)?;
-    print_charged(&rt, &uplink, "bearing", BEARING)?;
-    print_charged(&rt, &uplink, "brake", BRAKE)
+    for sender in &SENDERS {
+        print_charged(&rt, &uplink, sender)?;
+    }
+    Ok(())
 }

@@ -2,6 +2,7 @@
 -- For each call: its questions, in order, and then the call itself.
 use Rattle.std.specs.Prelude.{◌≡◌, ℕ, ◌+◌, ◌-◌, ◌^◌, ◌<◌, ◌≤◌, Bool, true, cond, not, ◌&&◌, List, [], ◌∷◌, length, Some, Ok, Option, Result, ◌==◌, nat_le, nat_lt}
 use Rattle.least.specs.Order.{first_least}
+use Rattle.meaning.specs.declared.refusal.Reason.TheVariants as reason
 use Rattle.meaning.specs.declared.refusal.Refusal.{Refusal}
 use Rattle.meaning.specs.declared.report.Report.{Report}
 use Rattle.meaning.specs.Control.{Control}
@@ -24,11 +25,11 @@ Done = Result (Unit {0}) Refusal
 -- the slot i is opened at the time t in the macroflow f, with the weight w and the life l
 abbrev pub open_questions : Core → ℕ → ℕ → ℕ → ℕ → ℕ → List Question
 open_questions m t i f w l =
-    q (timely m t) 2
-    ∷ q (nat_lt i 32) 3
-    ∷ q (nat_lt f m.macroflows) 4
-    ∷ q (not (stream m i).opened) 5
-    ∷ q ((nat_le 1 w && nat_le w 8) && (nat_le 1 l && nat_le l 60000000)) 6
+    q (timely m t) reason.NotTimely
+    ∷ q (nat_lt i 32) reason.NoSuchSlot
+    ∷ q (nat_lt f m.macroflows) reason.NoSuchMacroflow
+    ∷ q (not (stream m i).opened) reason.AlreadyOpen
+    ∷ q ((nat_le 1 w && nat_le w 8) && (nat_le 1 l && nat_le l 60000000)) reason.WeightOrLife
     ∷ []
 
 abbrev pub «open» : Core → ℕ → ℕ → ℕ → ℕ → ℕ → Reply Done (Unit {0})
@@ -39,12 +40,12 @@ abbrev pub «open» : Core → ℕ → ℕ → ℕ → ℕ → ℕ → Reply Don
 -- the stream of the slot i asks at the time t for a grant; its scheduler is one of k
 abbrev pub request_questions : Core → ℕ → ℕ → ℕ → List Question
 request_questions m k t i =
-    q (k == m.macroflows) 1
-    ∷ q (timely m t) 2
-    ∷ q (nat_lt i 32) 3
-    ∷ q (stream m i).opened 7
-    ∷ q (nat_lt (stream m i).waiting 255) 8
-    ∷ q (nat_lt (stream m i).macroflow m.macroflows) 1
+    q (k == m.macroflows) reason.TablesDisagree
+    ∷ q (timely m t) reason.NotTimely
+    ∷ q (nat_lt i 32) reason.NoSuchSlot
+    ∷ q (stream m i).opened reason.NotOpen
+    ∷ q (nat_lt (stream m i).waiting 255) reason.TooManyWaiting
+    ∷ q (nat_lt (stream m i).macroflow m.macroflows) reason.TablesDisagree
     ∷ []
 
 abbrev pub request : {S : Type 0} → Scheduling S → Core → List S → ℕ → ℕ → Reply Done (List S)
@@ -75,14 +76,14 @@ report_fits s b = all_fit ((s.outstanding - (b.received + b.lost)) ∷ (s.receiv
 abbrev pub report_questions : Core → ℕ → ℕ → ℕ → Feedback → List Question
 report_questions m k t i b =
     let s = stream m i in
-    q (k == m.macroflows) 1
-    ∷ q (timely m t) 2
-    ∷ q (nat_lt i 32) 3
-    ∷ q s.opened 7
-    ∷ q (is_known b) 14
-    ∷ q (is_covered b s.outstanding) 15
-    ∷ q (mode_fits b s.outstanding) 16
-    ∷ q (nat_lt s.macroflow m.macroflows && report_fits s b) 1
+    q (k == m.macroflows) reason.TablesDisagree
+    ∷ q (timely m t) reason.NotTimely
+    ∷ q (nat_lt i 32) reason.NoSuchSlot
+    ∷ q s.opened reason.NotOpen
+    ∷ q (is_known b) reason.ModeOrSample
+    ∷ q (is_covered b s.outstanding) reason.NotOutstanding
+    ∷ q (mode_fits b s.outstanding) reason.ModeUnfit
+    ∷ q (nat_lt s.macroflow m.macroflows && report_fits s b) reason.TablesDisagree
     ∷ []
 
 -- what these questions leave known of the stream's record s
@@ -107,13 +108,13 @@ report k m cs t i b =
 abbrev pub close_questions : Core → ℕ → ℕ → ℕ → List Question
 close_questions m k t i =
     let s = stream m i in
-    q (k == m.macroflows) 1
-    ∷ q (timely m t) 2
-    ∷ q (nat_lt i 32) 3
-    ∷ q s.opened 7
-    ∷ q (s.reserved == 0) 18
-    ∷ q (nat_lt s.macroflow m.macroflows) 1
-    ∷ q (all_fit ((s.abandoned + s.outstanding) ∷ [])) 1
+    q (k == m.macroflows) reason.TablesDisagree
+    ∷ q (timely m t) reason.NotTimely
+    ∷ q (nat_lt i 32) reason.NoSuchSlot
+    ∷ q s.opened reason.NotOpen
+    ∷ q (s.reserved == 0) reason.OpenBytes
+    ∷ q (nat_lt s.macroflow m.macroflows) reason.TablesDisagree
+    ∷ q (all_fit ((s.abandoned + s.outstanding) ∷ [])) reason.TablesDisagree
     ∷ []
 
 abbrev pub close : {S : Type 0} → Scheduling S → Core → List S → ℕ → ℕ → Reply Done (List S)
@@ -125,13 +126,13 @@ close k m ss t i =
 abbrev pub move_questions : Core → ℕ → ℕ → ℕ → ℕ → List Question
 move_questions m k t i f =
     let s = stream m i in
-    q (k == m.macroflows) 1
-    ∷ q (timely m t) 2
-    ∷ q (nat_lt i 32) 3
-    ∷ q (nat_lt f m.macroflows) 4
-    ∷ q s.opened 7
-    ∷ q (not (s.macroflow == f)) 17
-    ∷ q (nat_lt s.macroflow m.macroflows) 1
+    q (k == m.macroflows) reason.TablesDisagree
+    ∷ q (timely m t) reason.NotTimely
+    ∷ q (nat_lt i 32) reason.NoSuchSlot
+    ∷ q (nat_lt f m.macroflows) reason.NoSuchMacroflow
+    ∷ q s.opened reason.NotOpen
+    ∷ q (not (s.macroflow == f)) reason.SameMacroflow
+    ∷ q (nat_lt s.macroflow m.macroflows) reason.TablesDisagree
     ∷ []
 
 -- a slot that waits is lowered in the scheduler of the macroflow it leaves, and raised in that of the one it comes to
@@ -145,7 +146,7 @@ move_to k m ss t i f =
 
 -- the record of the slot i
 abbrev pub standing : Core → ℕ → Result Stream Refusal
-standing m i = asked (q (nat_lt i 32) 3 ∷ []) (about_slot m i) (stream m i)
+standing m i = asked (q (nat_lt i 32) reason.NoSuchSlot ∷ []) (about_slot m i) (stream m i)
 
 -- the open slot that has been quiet for longest
 abbrev pub quietest : Core → Option ℕ

@@ -6,6 +6,7 @@
 --   moved_below k a b n p    every open slot of the macroflow a below n goes to b, the lowest first
 --   merge_questions, merge   a merge
 use Rattle.std.specs.Prelude.{ℕ, zero, suc, cond, not, List, [], ◌∷◌, length, None, Ok, ◌==◌, nat_lt, slice_set}
+use Rattle.meaning.specs.declared.refusal.Reason.TheVariants as reason
 use Rattle.meaning.specs.Scheduling.{Scheduling}
 use Rattle.tables.specs.declared.core_state.Core.{Core}
 use Rattle.tables.specs.declared.stream.Stream.{Stream}
@@ -42,11 +43,11 @@ replied t p = reply (Ok tt) (at_time p.core t) p.schedulers
 -- every open slot of the macroflow a goes to the macroflow b at the time t; the schedulers are n
 abbrev pub merge_questions : Core → ℕ → ℕ → ℕ → ℕ → List Question
 merge_questions m n t a b =
-    q (n == m.macroflows) 1
-    ∷ q (timely m t) 2
-    ∷ q (nat_lt a m.macroflows) 4
-    ∷ q (nat_lt b m.macroflows) 4
-    ∷ q (not (a == b)) 17
+    q (n == m.macroflows) reason.TablesDisagree
+    ∷ q (timely m t) reason.NotTimely
+    ∷ q (nat_lt a m.macroflows) reason.NoSuchMacroflow
+    ∷ q (nat_lt b m.macroflows) reason.NoSuchMacroflow
+    ∷ q (not (a == b)) reason.SameMacroflow
     ∷ []
 
 abbrev pub merge : {S : Type 0} → Scheduling S → Core → List S → ℕ → ℕ → ℕ → Reply Done (List S)

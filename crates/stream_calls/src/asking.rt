@@ -3,7 +3,7 @@ ghost use Rattle.std.specs.Prelude.{◌≡◌};
 ghost use Rattle.stream_calls.specs.Calls.{standing as standing_call, quietest as quietest_call};
 
 use least::least;
-use meaning::Refusal;
+use meaning::{Reason, Refusal};
 use tables::{Core, Quiet, SLOTS, Stream};
 
 /// The record of a slot, whether a stream is open there or not.
@@ -11,7 +11,7 @@ pub fn standing(core: &Core, slot: usize) -> Result<Stream, Refusal>
     ensures { result ≡ standing_call core.now slot }
 {
     if slot >= SLOTS {
-        return Err(core.about_slot(slot, 3));
+        return Err(core.slot_refusal(slot, Reason::NoSuchSlot));
     }
     Ok(core.streams[slot])
 }

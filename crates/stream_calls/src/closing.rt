@@ -4,7 +4,7 @@ ghost use Rattle.tables.specs.Replies.{reply};
 ghost use Rattle.stream_calls.specs.Calls.{close as close_call};
 
 use crate::telling::lower;
-use meaning::{Refusal, Scheduler};
+use meaning::{Reason, Refusal, Scheduler};
 use tables::{Core, SLOTS, sum_fits};
 
 /// Closes a stream: its waiting requests are dropped, and what is outstanding counts as abandoned.
@@ -18,26 +18,26 @@ pub fn close<S: Scheduler>(
     ensures refused { OnErr result ((core.new ≡ core.old) × (schedulers.new ≡ schedulers.old)) }
 {
     if schedulers.len() != core.macroflows {
-        return Err(core.about_slot(slot, 1));
+        return Err(core.slot_refusal(slot, Reason::TablesDisagree));
     }
     if !core.is_timely(time) {
-        return Err(core.about_slot(slot, 2));
+        return Err(core.slot_refusal(slot, Reason::NotTimely));
     }
     if slot >= SLOTS {
-        return Err(core.about_slot(slot, 3));
+        return Err(core.slot_refusal(slot, Reason::NoSuchSlot));
     }
     let stream = core.streams[slot];
     if !stream.opened {
-        return Err(core.about_slot(slot, 7));
+        return Err(core.slot_refusal(slot, Reason::NotOpen));
     }
     if stream.reserved != 0 {
-        return Err(core.about_slot(slot, 18));
+        return Err(core.slot_refusal(slot, Reason::OpenBytes));
     }
     if stream.macroflow >= core.macroflows {
-        return Err(core.about_slot(slot, 1));
+        return Err(core.slot_refusal(slot, Reason::TablesDisagree));
     }
     if !sum_fits(stream.abandoned, stream.outstanding) {
-        return Err(core.about_slot(slot, 1));
+        return Err(core.slot_refusal(slot, Reason::TablesDisagree));
     }
     lower(schedulers, stream.macroflow, slot);
     let s = &mut core.streams[slot];

@@ -4,7 +4,7 @@ ghost use Rattle.tables.specs.Replies.{reply};
 ghost use Rattle.stream_calls.specs.Merges.{placed, moved_from, moved_below, merge as merge_call};
 
 use crate::moving::pass_on;
-use meaning::{Refusal, Scheduler};
+use meaning::{Reason, Refusal, Scheduler};
 use tables::{Core, SLOTS};
 
 /// The stream of a slot goes from one macroflow to another, if it is open there.
@@ -33,6 +33,7 @@ fn move_all<S: Scheduler>(core: &mut Core, schedulers: &mut [S], from: usize, in
     requires into { into < length schedulers.old }
     ensures { placed core.new schedulers.new ≡ moved_below S.scheduling from into 32 (placed core.old schedulers.old) }
 {
+    // By slot: each step changes the core, which an iterator over its records would hold.
     for slot in 0..SLOTS {
         move_from(core, schedulers, slot, from, into);
     }
@@ -51,16 +52,16 @@ pub fn merge<S: Scheduler>(
     ensures refused { OnErr result ((core.new ≡ core.old) × (schedulers.new ≡ schedulers.old)) }
 {
     if schedulers.len() != core.macroflows {
-        return Err(core.about_macroflow(None, from, 1));
+        return Err(core.macroflow_refusal(None, from, Reason::TablesDisagree));
     }
     if !core.is_timely(time) {
-        return Err(core.about_macroflow(None, from, 2));
+        return Err(core.macroflow_refusal(None, from, Reason::NotTimely));
     }
     if from >= core.macroflows || into >= core.macroflows {
-        return Err(core.about_macroflow(None, from, 4));
+        return Err(core.macroflow_refusal(None, from, Reason::NoSuchMacroflow));
     }
     if from == into {
-        return Err(core.about_macroflow(None, from, 17));
+        return Err(core.macroflow_refusal(None, from, Reason::SameMacroflow));
     }
     move_all(core, schedulers, from, into);
     core.last = time;

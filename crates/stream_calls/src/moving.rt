@@ -4,7 +4,7 @@ ghost use Rattle.tables.specs.Replies.{reply};
 ghost use Rattle.stream_calls.specs.Calls.{passed_on, move_to as move_call};
 
 use crate::telling::{lower, raise};
-use meaning::{Refusal, Scheduler};
+use meaning::{Reason, Refusal, Scheduler};
 use tables::{Core, SLOTS, Stream};
 
 /// A slot that waits is lowered in the scheduler of its macroflow, and raised in that of another.
@@ -37,26 +37,26 @@ pub fn move_to<S: Scheduler>(
     ensures refused { OnErr result ((core.new ≡ core.old) × (schedulers.new ≡ schedulers.old)) }
 {
     if schedulers.len() != core.macroflows {
-        return Err(core.about_macroflow(Some(slot), macroflow, 1));
+        return Err(core.macroflow_refusal(Some(slot), macroflow, Reason::TablesDisagree));
     }
     if !core.is_timely(time) {
-        return Err(core.about_macroflow(Some(slot), macroflow, 2));
+        return Err(core.macroflow_refusal(Some(slot), macroflow, Reason::NotTimely));
     }
     if slot >= SLOTS {
-        return Err(core.about_macroflow(Some(slot), macroflow, 3));
+        return Err(core.macroflow_refusal(Some(slot), macroflow, Reason::NoSuchSlot));
     }
     if macroflow >= core.macroflows {
-        return Err(core.about_macroflow(Some(slot), macroflow, 4));
+        return Err(core.macroflow_refusal(Some(slot), macroflow, Reason::NoSuchMacroflow));
     }
     let stream = core.streams[slot];
     if !stream.opened {
-        return Err(core.about_macroflow(Some(slot), macroflow, 7));
+        return Err(core.macroflow_refusal(Some(slot), macroflow, Reason::NotOpen));
     }
     if stream.macroflow == macroflow {
-        return Err(core.about_macroflow(Some(slot), macroflow, 17));
+        return Err(core.macroflow_refusal(Some(slot), macroflow, Reason::SameMacroflow));
     }
     if stream.macroflow >= core.macroflows {
-        return Err(core.about_macroflow(Some(slot), macroflow, 1));
+        return Err(core.macroflow_refusal(Some(slot), macroflow, Reason::TablesDisagree));
     }
     pass_on(schedulers, slot, macroflow, stream);
     core.streams[slot].macroflow = macroflow;

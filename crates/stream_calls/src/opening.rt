@@ -3,8 +3,11 @@ ghost use Rattle.std.specs.Prelude.{◌≡◌, OnErr};
 ghost use Rattle.tables.specs.Replies.{reply};
 ghost use Rattle.stream_calls.specs.Calls.{«open» as open_call};
 
-use meaning::Refusal;
+use meaning::{Reason, Refusal};
 use tables::{Core, SLOTS};
+
+/// The largest weight of a stream.
+const MAX_WEIGHT: u64 = 8;
 
 /// The longest life of a grant in microseconds.
 const MAX_LIFE: u64 = 60_000_000;
@@ -23,19 +26,19 @@ pub fn open(
     ensures refused { OnErr result (core.new ≡ core.old) }
 {
     if !core.is_timely(time) {
-        return Err(core.about_macroflow(Some(slot), macroflow, 2));
+        return Err(core.macroflow_refusal(Some(slot), macroflow, Reason::NotTimely));
     }
     if slot >= SLOTS {
-        return Err(core.about_macroflow(Some(slot), macroflow, 3));
+        return Err(core.macroflow_refusal(Some(slot), macroflow, Reason::NoSuchSlot));
     }
     if macroflow >= core.macroflows {
-        return Err(core.about_macroflow(Some(slot), macroflow, 4));
+        return Err(core.macroflow_refusal(Some(slot), macroflow, Reason::NoSuchMacroflow));
     }
     if core.streams[slot].opened {
-        return Err(core.about_macroflow(Some(slot), macroflow, 5));
+        return Err(core.macroflow_refusal(Some(slot), macroflow, Reason::AlreadyOpen));
     }
-    if weight < 1 || weight > 8 || life < 1 || life > MAX_LIFE {
-        return Err(core.about_macroflow(Some(slot), macroflow, 6));
+    if !(1..=MAX_WEIGHT).contains(&weight) || !(1..=MAX_LIFE).contains(&life) {
+        return Err(core.macroflow_refusal(Some(slot), macroflow, Reason::WeightOrLife));
     }
     core.streams[slot].open(macroflow, weight, life, time);
     core.last = time;

@@ -5,7 +5,7 @@ ghost use Rattle.tables.specs.Replies.{reply, asked};
 ghost use Rattle.stream_calls.specs.Calls.{Reportable, is_known, is_covered, mode_fits, report_fits, report_questions, report as report_call};
 
 use crate::telling::tell;
-use meaning::{Controller, PathEstimate, Refusal, Report};
+use meaning::{Controller, Mode, PathEstimate, Reason, Refusal, Report};
 use tables::{Core, SLOTS, Stream, difference_fits, sum_fits};
 
 /// What a stream reports: any numbers at all.
@@ -15,7 +15,8 @@ pub struct Feedback {
     pub received: u64,
     /// Bytes that were lost.
     pub lost: u64,
-    /// The number of the mode: 0 clear, 1 loss, 2 mark, 3 silence.
+    /// The number of the mode: 0 clear, 1 loss, 2 mark, 3 silence. A number and not a `Mode`, since a
+    /// host may send any.
     pub mode: u64,
     /// A round-trip sample in microseconds, where one was taken.
     pub sample: Option<u64>,
@@ -26,11 +27,7 @@ impl Feedback {
     fn is_known(self) -> bool
         ensures { result ≡ is_known self }
     {
-        self.mode <= 3
-            && match self.sample {
-                Some(micros) => PathEstimate::is_sample(micros),
-                None => true,
-            }
+        Mode::try_from(self.mode).is_ok() && self.sample.is_none_or(PathEstimate::is_sample)
     }
 
     /// Whether no more is reported than is outstanding.
@@ -45,11 +42,13 @@ impl Feedback {
     fn fits_mode(self, outstanding: u64) -> bool
         ensures { result ≡ mode_fits self outstanding }
     {
-        match self.mode {
-            0 => self.lost == 0,
-            1 => self.lost >= 1,
-            3 => self.received == 0 && self.lost == outstanding && self.lost >= 1,
-            _ => true,
+        match Mode::try_from(self.mode) {
+            Ok(Mode::Clear) => self.lost == 0,
+            Ok(Mode::Loss) => self.lost >= 1,
+            Ok(Mode::Silence) => {
+                self.received == 0 && self.lost == outstanding && self.lost >= 1
+            }
+            Ok(Mode::Mark) | Err(_) => true,
         }
     }
 
@@ -76,29 +75,29 @@ fn ask(
     ensures facts { IfOk result (λ s. Reportable core.now controllers slot feedback s) }
 {
     if controllers != core.macroflows {
-        return Err(core.about_slot(slot, 1));
+        return Err(core.slot_refusal(slot, Reason::TablesDisagree));
     }
     if !core.is_timely(time) {
-        return Err(core.about_slot(slot, 2));
+        return Err(core.slot_refusal(slot, Reason::NotTimely));
     }
     if slot >= SLOTS {
-        return Err(core.about_slot(slot, 3));
+        return Err(core.slot_refusal(slot, Reason::NoSuchSlot));
     }
     let stream = core.streams[slot];
     if !stream.opened {
-        return Err(core.about_slot(slot, 7));
+        return Err(core.slot_refusal(slot, Reason::NotOpen));
     }
     if !feedback.is_known() {
-        return Err(core.about_slot(slot, 14));
+        return Err(core.slot_refusal(slot, Reason::ModeOrSample));
     }
     if !feedback.is_covered(stream.outstanding) {
-        return Err(core.about_slot(slot, 15));
+        return Err(core.slot_refusal(slot, Reason::NotOutstanding));
     }
     if !feedback.fits_mode(stream.outstanding) {
-        return Err(core.about_slot(slot, 16));
+        return Err(core.slot_refusal(slot, Reason::ModeUnfit));
     }
     if stream.macroflow >= core.macroflows || !feedback.fits(stream) {
-        return Err(core.about_slot(slot, 1));
+        return Err(core.slot_refusal(slot, Reason::TablesDisagree));
     }
     Ok(stream)
 }

@@ -4,7 +4,7 @@ ghost use Rattle.tables.specs.Replies.{reply};
 ghost use Rattle.stream_calls.specs.Calls.{request as request_call};
 
 use crate::telling::raise;
-use meaning::{Refusal, Scheduler};
+use meaning::{Reason, Refusal, Scheduler};
 use tables::{Core, SLOTS};
 
 /// The most requests of one stream that can wait.
@@ -21,23 +21,23 @@ pub fn request<S: Scheduler>(
     ensures refused { OnErr result ((core.new ≡ core.old) × (schedulers.new ≡ schedulers.old)) }
 {
     if schedulers.len() != core.macroflows {
-        return Err(core.about_slot(slot, 1));
+        return Err(core.slot_refusal(slot, Reason::TablesDisagree));
     }
     if !core.is_timely(time) {
-        return Err(core.about_slot(slot, 2));
+        return Err(core.slot_refusal(slot, Reason::NotTimely));
     }
     if slot >= SLOTS {
-        return Err(core.about_slot(slot, 3));
+        return Err(core.slot_refusal(slot, Reason::NoSuchSlot));
     }
     let stream = core.streams[slot];
     if !stream.opened {
-        return Err(core.about_slot(slot, 7));
+        return Err(core.slot_refusal(slot, Reason::NotOpen));
     }
     if stream.waiting >= MAX_WAITING {
-        return Err(core.about_slot(slot, 8));
+        return Err(core.slot_refusal(slot, Reason::TooManyWaiting));
     }
     if stream.macroflow >= core.macroflows {
-        return Err(core.about_slot(slot, 1));
+        return Err(core.slot_refusal(slot, Reason::TablesDisagree));
     }
     if stream.waiting == 0 {
         raise(schedulers, stream.macroflow, slot, stream.weight);

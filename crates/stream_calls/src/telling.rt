@@ -1,4 +1,9 @@
-//! A scheduler or a controller of a list is copied out, told, and written back.
+//! A scheduler or a controller of a list is copied out, told, and written back: the lists are
+//! the host's, and hold plain values that are lent for one call. Three functions and not one over a
+//! closure: the contract of each says in one equation what the list is then.
+//!
+//! That a macroflow has a part in the list is asked of the caller, here and where these are called: it
+//! is about a number and a list together, so no type of either could say it.
 ghost use Rattle.std.specs.Prelude.{◌≡◌, ◌<◌, length};
 ghost use Rattle.stream_calls.specs.Lists.{raised_in, lowered_in, told_in};
 

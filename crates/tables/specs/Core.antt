@@ -5,12 +5,12 @@
 --   named_slot i                 a slot as a refusal names it
 --   named_macroflow m f          a macroflow as a refusal names it
 --   macroflow_of m i             the macroflow of the stream that is open in the slot i, as a refusal names it
---   about_slot m i n             refusal n, about the slot i and its stream's macroflow
---   about_macroflow m o f n      refusal n, about the macroflow f and the slot o if there is one
---   about_nothing n              refusal n, about no slot and no macroflow
+--   about_slot m i r             a refusal for the reason r, about the slot i and its stream's macroflow
+--   about_macroflow m o f r      a refusal for the reason r, about the macroflow f and the slot o if there is one
 --   at_time m t                  only the last time changes
 --   put m t i s                  the record of the slot i becomes s, at the time t
 use Rattle.std.specs.Prelude.{ℕ, Bool, cond, ◌&&◌, replicate, Some, None, Option, nat_le, nat_lt, slice_index_or, slice_set}
+use Rattle.meaning.specs.declared.refusal.Reason.{Reason}
 use Rattle.meaning.specs.declared.refusal.Refusal.{Refusal}
 use Rattle.tables.specs.declared.core_state.Core.{Core}
 use Rattle.tables.specs.declared.stream.Stream.{Stream}
@@ -34,18 +34,15 @@ named_macroflow m f = cond (nat_lt f m.macroflows) (Some f) None
 abbrev pub macroflow_of : Core → ℕ → Option ℕ
 macroflow_of m i = cond (nat_lt i 32 && (stream m i).opened) (named_macroflow m (stream m i).macroflow) None
 
-abbrev pub about_slot : Core → ℕ → ℕ → Refusal
-about_slot m i n = record { number = n; slot = named_slot i; macroflow = macroflow_of m i }
+abbrev pub about_slot : Core → ℕ → Reason → Refusal
+about_slot m i r = record { reason = r; slot = named_slot i; macroflow = macroflow_of m i }
 
 abbrev pub named_some : Option ℕ → Option ℕ
 named_some None = None
 named_some (Some i) = named_slot i
 
-abbrev pub about_macroflow : Core → Option ℕ → ℕ → ℕ → Refusal
-about_macroflow m o f n = record { number = n; slot = named_some o; macroflow = named_macroflow m f }
-
-abbrev pub about_nothing : ℕ → Refusal
-about_nothing n = record { number = n; slot = None; macroflow = None }
+abbrev pub about_macroflow : Core → Option ℕ → ℕ → Reason → Refusal
+about_macroflow m o f r = record { reason = r; slot = named_some o; macroflow = named_macroflow m f }
 
 abbrev pub at_time : Core → ℕ → Core
 at_time m t = record { streams = m.streams; macroflows = m.macroflows; capacity = m.capacity; issued = m.issued; last = t }

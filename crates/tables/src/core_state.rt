@@ -3,7 +3,7 @@ ghost use Rattle.std.specs.Prelude.{◌≡◌};
 ghost use Rattle.tables.specs.Core.{stream as stream_at, named_slot, named_macroflow, macroflow_of, about_slot, about_macroflow, timely};
 
 use crate::stream::Stream;
-use meaning::Refusal;
+use meaning::{Reason, Refusal};
 
 /// The number of slots.
 pub const SLOTS: usize = 32;
@@ -15,10 +15,11 @@ pub const MAX_TIME: u64 = 1_000_000_000_000_000;
 #[derive(Clone, Copy)]
 pub struct Core {
     /// The stream records, one for each slot.
-    pub streams: [Stream; 32],
+    pub streams: [Stream; SLOTS],
     /// The number of macroflows.
     pub macroflows: usize,
-    /// The number of rows in the ledger.
+    /// The number of rows in the ledger. It and the next stand here and not with the rows, since these
+    /// are the host's: the manager takes no memory of its own.
     pub capacity: usize,
     /// The number of grants issued.
     pub issued: usize,
@@ -31,52 +32,47 @@ impl Core {
     fn named_slot(slot: usize) -> Option<usize>
         ensures { result ≡ named_slot slot }
     {
-        if slot < SLOTS { Some(slot) } else { None }
+        (slot < SLOTS).then_some(slot)
     }
 
     /// A macroflow as a refusal names it: absent where it does not exist.
     fn named_macroflow(&self, macroflow: usize) -> Option<usize>
         ensures { result ≡ named_macroflow self.now macroflow }
     {
-        if macroflow < self.macroflows {
-            Some(macroflow)
-        } else {
-            None
-        }
+        (macroflow < self.macroflows).then_some(macroflow)
     }
 
     /// The macroflow of the stream that is open in a slot, as a refusal names it.
     fn macroflow_of(&self, slot: usize) -> Option<usize>
         ensures { result ≡ macroflow_of self.now slot }
     {
-        if slot < SLOTS && self.streams[slot].opened {
-            self.named_macroflow(self.streams[slot].macroflow)
-        } else {
-            None
-        }
+        let stream = self.streams.get(slot).filter(|stream| stream.opened)?;
+        self.named_macroflow(stream.macroflow)
     }
 
     /// A refusal that is about a slot, and about the macroflow of the stream that is open there.
-    pub fn about_slot(&self, slot: usize, number: u8) -> Refusal
-        ensures { result ≡ about_slot self.now slot number }
+    pub fn slot_refusal(&self, slot: usize, reason: Reason) -> Refusal
+        ensures { result ≡ about_slot self.now slot reason }
     {
         Refusal {
-            number,
+            reason,
             slot: Core::named_slot(slot),
             macroflow: self.macroflow_of(slot),
         }
     }
 
     /// A refusal that is about a macroflow by its number, and perhaps a slot.
-    pub fn about_macroflow(&self, slot: Option<usize>, macroflow: usize, number: u8) -> Refusal
-        ensures { result ≡ about_macroflow self.now slot macroflow number }
+    pub fn macroflow_refusal(
+        &self,
+        slot: Option<usize>,
+        macroflow: usize,
+        reason: Reason,
+    ) -> Refusal
+        ensures { result ≡ about_macroflow self.now slot macroflow reason }
     {
         Refusal {
-            number,
-            slot: match slot {
-                Some(slot) => Core::named_slot(slot),
-                None => None,
-            },
+            reason,
+            slot: slot.and_then(Core::named_slot),
             macroflow: self.named_macroflow(macroflow),
         }
     }
@@ -85,6 +81,6 @@ impl Core {
     pub fn is_timely(&self, time: u64) -> bool
         ensures { result ≡ timely self.now time }
     {
-        self.last <= time && time <= MAX_TIME
+        (self.last..=MAX_TIME).contains(&time)
     }
 }

@@ -6,9 +6,10 @@ ghost use Rattle.std.proofs.Common.{rules};
 use least::Ranking;
 
 /// What became of a grant.
-#[derive(Clone, Copy, PartialEq, Eq, Debug)]
+#[derive(Clone, Copy, PartialEq, Eq, Debug, Default)]
 pub enum Fate {
     /// It has not ended.
+    #[default]
     Open = 0,
     /// It was settled with bytes sent.
     Charged = 1,
@@ -23,12 +24,24 @@ impl Fate {
     pub fn number(self) -> u8
         ensures { result ≡ fate_number self }
     {
-        self as u8
+        u8::from(self)
+    }
+}
+
+impl From<Fate> for u8 {
+    ghost from_gives = { λ fate number. number ≡ fate_number fate };
+
+    /// The number of the fate, 0 to 3.
+    fn from(fate: Fate) -> u8 {
+        fate as u8
     }
 }
 
 /// A row of the ledger. Row g describes grant g, counted from 0 in the order of issue.
-#[derive(Clone, Copy)]
+///
+/// Each field is a column of the ledger, also where the fate gives it no meaning: the rows are the
+/// host's, and it may write any mixture into them.
+#[derive(Clone, Copy, PartialEq, Eq, Debug, Default)]
 pub struct Row {
     /// The slot that got the grant.
     pub slot: usize,
@@ -55,17 +68,7 @@ impl Row {
     pub fn blank() -> Row
         ensures { result ≡ blank_row }
     {
-        Row {
-            slot: 0,
-            macroflow: 0,
-            granted: 0,
-            issued: 0,
-            deadline: 0,
-            fate: Fate::Open,
-            sent: 0,
-            ended: 0,
-            taken: false,
-        }
+        Row::default()
     }
 
     /// The row of a new grant.
@@ -86,7 +89,7 @@ impl Row {
     pub fn is_open(&self) -> bool
         ensures { result ≡ is_open_fate self.now.fate }
     {
-        matches!(self.fate, Fate::Open)
+        self.fate == Fate::Open
     }
 }
 
@@ -109,7 +112,6 @@ impl Ranking<Row> for Due {
     }
 
     fn no_later(&self, first: &Row, second: &Row) -> bool {
-        first.deadline < second.deadline
-            || (first.deadline == second.deadline && first.slot <= second.slot)
+        (first.deadline, first.slot) <= (second.deadline, second.slot)
     }
 }

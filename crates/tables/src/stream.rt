@@ -1,12 +1,15 @@
 //! The record of a stream.
 ghost use Rattle.std.specs.Prelude.{◌≡◌, ◌+◌, ◌-◌, ◌^◌, ◌<◌, ◌≤◌};
-ghost use Rattle.tables.specs.Streams.{no_stream, is_open, quiet_upto, waits_in, load_in, flight_in, opened};
+ghost use Rattle.tables.specs.Streams.{no_stream, is_open, is_in, quiet_upto, waits_in, load_in, flight_in, opened};
 ghost use Rattle.std.proofs.Common.{rules};
 
 use least::Ranking;
 
 /// What the manager keeps of a slot, whether a stream is open there or not.
-#[derive(Clone, Copy)]
+///
+/// Whether it is open is a flag, and not an `Option` around the rest: a closed slot keeps its
+/// macroflow, weight, life and quiet time, and a host that asks for its record reads them.
+#[derive(Clone, Copy, PartialEq, Eq, Debug, Default)]
 pub struct Stream {
     /// Whether a stream is open in the slot.
     pub opened: bool,
@@ -39,27 +42,21 @@ impl Stream {
     pub fn closed() -> Stream
         ensures { result ≡ no_stream }
     {
-        Stream {
-            opened: false,
-            macroflow: 0,
-            weight: 0,
-            life: 0,
-            waiting: 0,
-            reserved: 0,
-            outstanding: 0,
-            quiet: 0,
-            charged: 0,
-            received: 0,
-            lost: 0,
-            abandoned: 0,
-        }
+        Stream::default()
+    }
+
+    /// Whether the stream is open in the macroflow.
+    fn is_in(&self, macroflow: usize) -> bool
+        ensures { result ≡ is_in self.now macroflow }
+    {
+        self.opened && self.macroflow == macroflow
     }
 
     /// Whether the stream is open in the macroflow and waits for a grant.
     pub fn waits_in(&self, macroflow: usize) -> bool
         ensures { result ≡ waits_in self.now macroflow }
     {
-        self.opened && self.macroflow == macroflow && self.waiting > 0
+        self.is_in(macroflow) && self.waiting > 0
     }
 
     /// The outstanding and open bytes that the stream has in the macroflow.
@@ -67,20 +64,21 @@ impl Stream {
         ensures value { result ≡ load_in self.now macroflow }
         ensures most { result < 2 ^ 65 }
     {
-        if self.opened && self.macroflow == macroflow {
-            self.outstanding as u128 + self.reserved as u128
+        if self.is_in(macroflow) {
+            u128::from(self.outstanding) + u128::from(self.reserved)
         } else {
             0
         }
     }
 
-    /// The outstanding bytes that the stream has in the macroflow.
+    /// The outstanding bytes that the stream has in the macroflow. Its sum and its limit are not those
+    /// of `load_in`.
     pub fn flight_in(&self, macroflow: usize) -> u128
         ensures value { result ≡ flight_in self.now macroflow }
         ensures most { result < 2 ^ 64 }
     {
-        if self.opened && self.macroflow == macroflow {
-            self.outstanding as u128
+        if self.is_in(macroflow) {
+            u128::from(self.outstanding)
         } else {
             0
         }

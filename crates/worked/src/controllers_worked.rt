@@ -4,7 +4,7 @@ ghost use Rattle.std.specs.Prelude.{◌≡◌, [], ◌∷◌, Some, Ok};
 ghost use Rattle.worked.specs.Controllers.{clear as clear_report, loss as loss_report, StartingWindows, ClearLossClear, LargeFlight, TwoSamples, RateGrows};
 
 use controllers::{ByteAimd, RateController};
-use meaning::{Controller, PathEstimate, Refusal, Report};
+use meaning::{Controller, Mode, PathEstimate, Refusal, Report};
 
 /// A clear report about this many bytes.
 fn clear(received: u64, time: u64) -> Report
@@ -13,7 +13,7 @@ fn clear(received: u64, time: u64) -> Report
     Report {
         received,
         lost: 0,
-        mode: 0,
+        mode: Mode::Clear as u64,
         sample: None,
         flight: received,
         time,
@@ -27,7 +27,7 @@ fn loss(flight: u64, time: u64) -> Report
     Report {
         received: 0,
         lost: 1,
-        mode: 1,
+        mode: Mode::Loss as u64,
         sample: None,
         flight,
         time,
@@ -40,11 +40,12 @@ pub fn starting_windows() -> Result<[u64; 4], Refusal>
     ensures rule { StartingWindows }
     ensures code { result ≡ Ok (4380 ∷ 3288 ∷ 6570 ∷ 4382 ∷ []) }
 {
-    let a = ByteAimd::new(1095)?.allowance();
-    let b = ByteAimd::new(1096)?.allowance();
-    let c = ByteAimd::new(2190)?.allowance();
-    let d = ByteAimd::new(2191)?.allowance();
-    Ok([a, b, c, d])
+    Ok([
+        ByteAimd::new(1095)?.allowance(),
+        ByteAimd::new(1096)?.allowance(),
+        ByteAimd::new(2190)?.allowance(),
+        ByteAimd::new(2191)?.allowance(),
+    ])
 }
 
 /// The samples 100,000 and 180,000 lead to a deviation of 57,500 and a smoothed time of 110,000.
@@ -106,12 +107,8 @@ pub fn rate_grows() -> Result<[u64; 3], Refusal>
     let mut controller = RateController::new(1_000)?;
     let start = controller.allowance();
     controller.report(Report {
-        received: 6_400,
-        lost: 0,
-        mode: 0,
         sample: Some(100_000),
-        flight: 6_400,
-        time: 1_000_000,
+        ..clear(6_400, 1_000_000)
     });
     Ok([start, controller.state().rate, controller.allowance()])
 }

@@ -4,7 +4,7 @@ ghost use Rattle.class_tree.specs.Rule.{class_weight};
 ghost use Rattle.class_tree.specs.Scheduling.{fresh, class_tree};
 
 use super::ClassTree;
-use crate::state::ClassTreeState;
+use crate::state::{CLASSES, ClassTreeState, PLACES};
 use schedulers::RoundRobin;
 
 /// The weight of a class among the classes.
@@ -28,7 +28,7 @@ impl ClassTree {
         ClassTree {
             state: ClassTreeState {
                 classes: RoundRobin::new(),
-                slots: [slots; 4],
+                slots: [slots; CLASSES],
             },
         }
     }
@@ -37,7 +37,7 @@ impl ClassTree {
     pub fn is_waiting(&self, slot: usize) -> bool
         ensures { result ≡ class_tree.waits self.now slot }
     {
-        slot < 32 && self.state.slots[slot / 8].is_waiting(slot % 8)
+        slot < CLASSES * PLACES && self.state.slots[slot / PLACES].is_waiting(slot % PLACES)
     }
 
     /// The slot begins to wait in its class, with this weight, and where it is the first of its class, the class begins
@@ -46,11 +46,10 @@ impl ClassTree {
     pub fn raise(&mut self, slot: usize, weight: u64)
         ensures { self.new ≡ class_tree.raised self.old slot weight }
     {
-        if slot < 32 {
-            let class = slot / 8;
-            let mut slots = self.state.slots[class];
-            slots.raise(slot % 8, weight);
-            self.state.slots[class] = slots;
+        if slot < CLASSES * PLACES {
+            let class = slot / PLACES;
+            let slots = &mut self.state.slots[class];
+            slots.raise(slot % PLACES, weight);
             if slots.is_any_waiting() {
                 self.state.classes.raise(class, class_weight(class));
             }
@@ -62,11 +61,10 @@ impl ClassTree {
     pub fn lower(&mut self, slot: usize)
         ensures { self.new ≡ class_tree.lowered self.old slot }
     {
-        if slot < 32 {
-            let class = slot / 8;
-            let mut slots = self.state.slots[class];
-            slots.lower(slot % 8);
-            self.state.slots[class] = slots;
+        if slot < CLASSES * PLACES {
+            let class = slot / PLACES;
+            let slots = &mut self.state.slots[class];
+            slots.lower(slot % PLACES);
             if !slots.is_any_waiting() {
                 self.state.classes.lower(class);
             }
@@ -79,15 +77,8 @@ impl ClassTree {
         ensures answer { result ≡ class_tree.chosen self.old }
         ensures after { self.new ≡ class_tree.turned self.old }
     {
-        let Some(class) = self.state.classes.pick() else {
-            return None;
-        };
-        let mut slots = self.state.slots[class];
-        let picked = slots.pick();
-        self.state.slots[class] = slots;
-        match picked {
-            Some(place) => Some(class * 8 + place),
-            None => None,
-        }
+        let class = self.state.classes.pick()?;
+        let place = self.state.slots[class].pick()?;
+        Some(class * PLACES + place)
     }
 }

@@ -1,8 +1,9 @@
 //! The numbers of a byte AIMD controller, and how a report moves them.
-ghost use Rattle.std.specs.Prelude.{◌≡◌, ◌^◌, ◌<◌, ◌≤◌};
-ghost use Rattle.controllers.specs.Aimd.{starting_window, fresh as fresh_state, moved, threshold_after, step as state_step, told as state_told};
-ghost use Rattle.controllers.specs.AimdRange.{InRange};
+ghost use Rattle.std.specs.Prelude.{◌≡◌, ◌≤◌};
+ghost use Rattle.controllers.specs.Aimd.{starting_window, moved, threshold_after};
+ghost use Rattle.controllers.specs.AimdRule.{aimd_rule, aimd_keeps};
 
+use crate::numbers::Numbers;
 use meaning::{MAX_ALLOWANCE, Mode, PathEstimate, Report};
 
 /// The numbers of a byte AIMD controller.
@@ -33,25 +34,12 @@ impl AimdState {
         }
     }
 
-    pub(crate) fn fresh(packet: u64) -> AimdState
-        requires { packet ≤ 9000 }
-        ensures { result ≡ fresh_state packet }
-    {
-        AimdState {
-            packet,
-            window: AimdState::starting_window(packet),
-            threshold: MAX_ALLOWANCE,
-            count: 0,
-            path: None,
-        }
-    }
-
     /// The threshold after a loss: half of the flight, but at least two packets.
     fn threshold_after(self, flight: u64) -> u64
         requires { self.packet ≤ 9000 }
         ensures { result ≡ threshold_after self flight }
     {
-        (flight / 2).max(2 * self.packet).min(MAX_ALLOWANCE)
+        (flight / 2).clamp(2 * self.packet, MAX_ALLOWANCE)
     }
 
     /// The numbers with another window and threshold, and the count begun anew.
@@ -65,6 +53,41 @@ impl AimdState {
             ..self
         }
     }
+}
+
+impl Numbers for AimdState {
+    ghost rule = { aimd_rule };
+
+    ghost lawful = { aimd_keeps };
+
+    fn fresh(packet: u64) -> AimdState {
+        AimdState {
+            packet,
+            window: AimdState::starting_window(packet),
+            threshold: MAX_ALLOWANCE,
+            count: 0,
+            path: None,
+        }
+    }
+
+    fn packet(&self) -> u64 {
+        self.packet
+    }
+
+    fn allowance(&self) -> u64 {
+        self.window
+    }
+
+    fn path(&self) -> Option<PathEstimate> {
+        self.path
+    }
+
+    fn sampled(self, report: Report) -> AimdState {
+        AimdState {
+            path: PathEstimate::after(self.path, report.sample),
+            ..self
+        }
+    }
 
     /// The numbers after a report in range, whose sample is taken already.
     ///
@@ -73,11 +96,7 @@ impl AimdState {
     ///   packet more.
     /// - Loss or mark: the threshold falls to half of the flight, and the window to the threshold.
     /// - Silence: the threshold likewise, and the window falls to a packet.
-    fn step(self, report: Report, mode: Mode) -> AimdState
-        requires ranged { InRange self }
-        requires amount { report.received < 2 ^ 32 }
-        ensures { result ≡ state_step self report mode }
-    {
+    fn step(self, report: Report, mode: Mode) -> AimdState {
         match mode {
             Mode::Clear if self.window < self.threshold => AimdState {
                 window: (self.window + report.received.min(self.packet)).min(MAX_ALLOWANCE),
@@ -97,18 +116,5 @@ impl AimdState {
             }
             Mode::Silence => self.resized(self.packet, self.threshold_after(report.flight)),
         }
-    }
-
-    /// The numbers after any report: its sample is taken first, then its mode. A report with a
-    /// number out of range does nothing.
-    pub(crate) fn told(self, report: Report) -> AimdState
-        requires { InRange self }
-        ensures { result ≡ state_told self report }
-    {
-        let Some(mode) = report.heard() else {
-            return self;
-        };
-        let path = PathEstimate::after(self.path, report.sample);
-        AimdState { path, ..self }.step(report, mode)
     }
 }

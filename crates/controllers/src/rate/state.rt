@@ -1,8 +1,9 @@
 //! The numbers of a rate controller, and how a report moves them.
-ghost use Rattle.std.specs.Prelude.{◌≡◌, ◌^◌, ◌<◌, ◌≤◌};
-ghost use Rattle.controllers.specs.Rate.{round_trip, allowance as allowance_of, fresh as fresh_state, moved, step as state_step, told as state_told};
-ghost use Rattle.controllers.specs.RateRange.{InRange};
+ghost use Rattle.std.specs.Prelude.{◌≡◌, ◌≤◌};
+ghost use Rattle.controllers.specs.Rate.{round_trip, moved};
+ghost use Rattle.controllers.specs.RateRule.{rate_rule, rate_keeps};
 
+use crate::numbers::Numbers;
 use meaning::{MAX_ALLOWANCE, Mode, PathEstimate, Report};
 
 /// The lowest rate, and by how much a loss lowers it, in bytes a second.
@@ -37,36 +38,12 @@ pub struct RateState {
 }
 
 impl RateState {
-    pub(crate) fn fresh(packet: u64) -> RateState
-        ensures { result ≡ fresh_state packet }
-    {
-        RateState {
-            packet,
-            rate: STARTING_RATE,
-            count: 0,
-            path: None,
-        }
-    }
-
     /// The round trip by which the rate is turned into an allowance.
     fn round_trip(self) -> u64
         ensures value { result ≡ round_trip self.path }
         ensures most { result ≤ 10000000 }
     {
-        match self.path {
-            Some(path) => path.smoothed(),
-            None => ASSUMED_ROUND_TRIP,
-        }
-    }
-
-    /// What the rate carries in one round trip, but at least a packet and at most 1,048,576.
-    pub(crate) fn allowance(self) -> u64
-        requires { InRange self }
-        ensures { result ≡ allowance_of self }
-    {
-        (self.rate * self.round_trip() / SECOND)
-            .max(self.packet)
-            .min(MAX_ALLOWANCE)
+        self.path.map_or(ASSUMED_ROUND_TRIP, |path| path.smoothed())
     }
 
     /// The numbers with another rate, and the count begun anew.
@@ -79,6 +56,41 @@ impl RateState {
             ..self
         }
     }
+}
+
+impl Numbers for RateState {
+    ghost rule = { rate_rule };
+
+    ghost lawful = { rate_keeps };
+
+    fn fresh(packet: u64) -> RateState {
+        RateState {
+            packet,
+            rate: STARTING_RATE,
+            count: 0,
+            path: None,
+        }
+    }
+
+    fn packet(&self) -> u64 {
+        self.packet
+    }
+
+    /// What the rate carries in one round trip, but at least a packet and at most 1,048,576.
+    fn allowance(&self) -> u64 {
+        (self.rate * self.round_trip() / SECOND).clamp(self.packet, MAX_ALLOWANCE)
+    }
+
+    fn path(&self) -> Option<PathEstimate> {
+        self.path
+    }
+
+    fn sampled(self, report: Report) -> RateState {
+        RateState {
+            path: PathEstimate::after(self.path, report.sample),
+            ..self
+        }
+    }
 
     /// The numbers after a report in range, whose sample is taken already.
     ///
@@ -86,11 +98,7 @@ impl RateState {
     ///   grows, by the less the higher it is.
     /// - Loss or mark: the rate falls by a step, but not below one step.
     /// - Silence: the rate falls to one step.
-    fn step(self, report: Report, mode: Mode) -> RateState
-        requires ranged { InRange self }
-        requires amount { report.received < 2 ^ 32 }
-        ensures { result ≡ state_step self report mode }
-    {
+    fn step(self, report: Report, mode: Mode) -> RateState {
         match mode {
             Mode::Clear if self.count + report.received < self.allowance() => RateState {
                 count: self.count + report.received,
@@ -100,18 +108,5 @@ impl RateState {
             Mode::Loss | Mode::Mark => self.paced((self.rate - RATE_STEP).max(RATE_STEP)),
             Mode::Silence => self.paced(RATE_STEP),
         }
-    }
-
-    /// The numbers after any report: its sample is taken first, then its mode. A report with a
-    /// number out of range does nothing.
-    pub(crate) fn told(self, report: Report) -> RateState
-        requires { InRange self }
-        ensures { result ≡ state_told self report }
-    {
-        let Some(mode) = report.heard() else {
-            return self;
-        };
-        let path = PathEstimate::after(self.path, report.sample);
-        RateState { path, ..self }.step(report, mode)
     }
 }

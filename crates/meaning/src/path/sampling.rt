@@ -24,7 +24,7 @@ impl PathEstimate {
     pub fn is_sample(micros: u64) -> bool
         ensures { result ≡ is_sample micros }
     {
-        1 <= micros && micros <= 10_000_000
+        (1..=10_000_000).contains(&micros)
     }
 
     /// The estimate by the first sample: it is taken whole, with half of it as the deviation.
@@ -56,15 +56,12 @@ impl PathEstimate {
     pub fn after(path: Option<PathEstimate>, sample: Option<u64>) -> Option<PathEstimate>
         ensures { result ≡ path_after path sample }
     {
-        let Some(micros) = sample else {
-            return path;
-        };
-        if !PathEstimate::is_sample(micros) {
-            return path;
-        }
-        match path {
-            None => Some(PathEstimate::first(micros)),
-            Some(old) => Some(old.next(micros)),
+        match sample {
+            Some(micros) if PathEstimate::is_sample(micros) => Some(match path {
+                None => PathEstimate::first(micros),
+                Some(old) => old.next(micros),
+            }),
+            _ => path,
         }
     }
 }

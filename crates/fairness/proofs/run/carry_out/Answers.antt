@@ -3,12 +3,7 @@ use Rattle.fairness.specs.Fair.{Fair}
 use Rattle.fairness.proofs.Fairness.{fair}
 use Rattle.fairness.proofs.run.carry_out.Goals as goal
 
-pub returns : goal.returns
-returns g c =
+pub returns-clause-fair : goal.returns-clause-fair
+returns-clause-fair g c =
     let k = g.S.Scheduler.scheduling in
-    let s = c.args.scheduler.now in
-    let events = c.args.events.now in
-    record {
-      ended = (c.apply.ensures.answers, c.apply.ensures.state);
-      fair = subst (λ xs. Fair k s events xs) (sym c.apply.ensures.answers) (fair k g.met.S.Scheduler.lawful s events);
-    }
+    subst (λ xs. Fair k c.args.scheduler.now c.args.events.now xs) (sym c.apply.ensures.answers) (fair k g.met.S.Scheduler.lawful c.args.scheduler.now c.args.events.now)

@@ -1,33 +1,16 @@
-use Rattle.std.proofs.Common.{◌≡◌, Bool, true, false, not, sym, refl, ap, ◌∙◌, ap₂, arith}
+use Rattle.std.proofs.Common.{ℕ, rules, tests, ◌∙◌, arith}
 use mathlib.Core.Bool.{beq}
-use Rattle.std.proofs.lemmas.Bool.{true≢false}
-use Rattle.meaning.specs.Below.{all_below}
-use Rattle.tables.specs.Core.{stream}
-use Rattle.tables.specs.Streams.{waits_in}
-use Rattle.meaning.proofs.Below.{all_none, all_more, all_fails}
+use Rattle.std.proofs.lemmas.Iterator.{YieldsList-from_slice}
+use Rattle.std.proofs.lemmas.Iterator.Consumers.{YieldsList-at, YieldsList-from_enumerate}
+use Rattle.std.proofs.lemmas.Iterator.Search.{all_from_yields_List}
+use Rattle.tables.specs.declared.stream.Stream.{Stream}
+use Rattle.tables.specs.Streams.{no_stream, waits_in}
+use Rattle.tables.proofs.Slots.{placed_by_below}
 use Rattle.grant_calls.proofs.polling.agrees.Goals as goal
-
-not_false : (b : Bool) → not b ≡ false → b ≡ true
-not_false true e = refl
-not_false false e = absurd (true≢false e)
-
-not_true : (b : Bool) → not b ≡ true → b ≡ false
-not_true true e = absurd (true≢false (sym e))
-not_true false e = refl
-
-pub loop-slot-init : goal.loop-slot-init
-loop-slot-init g c = all_none _
-
-pub loop-slot-preserved : goal.loop-slot-preserved
-loop-slot-preserved g c = all_more _ _ c.loop-slot.invariant (sym (ap₂ beq c.is_waiting.ensures c.waits_in.ensures) ∙ not_false _ c.if-is_waiting-waits_in.false)
-
-pub returns-then-is_waiting-waits_in : goal.returns-then-is_waiting-waits_in
-returns-then-is_waiting-waits_in g c =
-    sym (all_fails _ 32 c.loop-slot.slot c.loop-slot-test.true
-    (sym (ap₂ beq c.is_waiting.ensures c.waits_in.ensures) ∙ not_true _ c.if-is_waiting-waits_in.true))
 
 pub returns : goal.returns
 returns g c =
-    let end : c.loop-slot.slot ≡ 32 = omega arith in
     let k = g.S.Scheduler.scheduling in
-    sym (ap (λ n. all_below n (λ i. beq (k.waits c.args.scheduler.now i) (waits_in (stream c.args.core.now i) c.args.macroflow))) (sym end) ∙ c.loop-slot.invariant)
+    let agree = λ (p : ℕ × Stream). beq (k.waits c.args.scheduler.now p.0) (waits_in p.1 c.args.macroflow) in
+    all_from_yields_List agree _ _ _ c.all.ensures.ran (YieldsList-from_enumerate (YieldsList-at c.enumerate.ensures.source (YieldsList-from_slice c.args.core.now.streams cc)) (search rules)) (λ x b q k. search (rules, tests))
+    ∙ placed_by_below c.args.core.now.streams no_stream agree 32 (omega arith)

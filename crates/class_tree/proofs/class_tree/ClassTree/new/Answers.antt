@@ -2,7 +2,7 @@ use Rattle.std.proofs.Common.{◌≡◌, replicate, sym, subst}
 use Rattle.schedulers.specs.declared.round_robin.RoundRobin.{RoundRobin}
 use Rattle.schedulers.specs.Scheduling as rr
 use Rattle.class_tree.specs.Scheduling.{fresh_state, fresh_sound}
-use Rattle.class_tree.specs.Same.{SoundState, same}
+use Rattle.class_tree.specs.Same.{SoundState}
 use Rattle.class_tree.proofs.Steps.{parts}
 use Rattle.class_tree.proofs.class_tree.ClassTree.new.Goals as goal
 
@@ -12,6 +12,3 @@ fresh_parts e f = λ i. parts (e i) (replicate 4 (f i))
 
 pub invariant_of-result : goal.invariant_of-result
 invariant_of-result c = record { sound = subst SoundState (sym (fresh_parts c.new.ensures c.new-slots.ensures)) fresh_sound }
-
-pub returns : goal.returns
-returns c = same _ _ (fresh_parts c.new.ensures c.new-slots.ensures)

@@ -1,18 +1,11 @@
-use Rattle.std.proofs.Common.{◌≡◌, ap, ◌∙◌, arith}
-use Rattle.meaning.specs.Below.{sum_below}
-use Rattle.tables.specs.Core.{stream}
-use Rattle.tables.specs.Streams.{flight_in}
-use Rattle.meaning.proofs.Below.{sum_none, sum_more}
+use Rattle.std.proofs.Common.{rules, tests, ◌∙◌, arith}
+use Rattle.std.proofs.lemmas.Iterator.{YieldsList-from_slice, YieldsList-from_map}
+use Rattle.std.proofs.lemmas.Iterator.Consumers.{YieldsList-at, sum_by_from_yields_List}
+use Rattle.tables.specs.Streams.{no_stream, flight_in}
+use Rattle.tables.proofs.Slots.{sum_by_below}
 use Rattle.tables.proofs.core_state.Core.outstanding.Goals as goal
-
-pub loop-slot-init : goal.loop-slot-init
-loop-slot-init c = (sum_none _ 0, omega arith)
-
-pub loop-slot-preserved : goal.loop-slot-preserved
-loop-slot-preserved c = (sum_more _ _ _ _ c.loop-slot.invariant.0 c.flight_in-outstanding.ensures.value, omega (arith, c.loop-slot.invariant.1, c.flight_in-outstanding.ensures.most))
 
 pub returns : goal.returns
 returns c =
-    let end : c.loop-slot.slot ≡ 32 = omega arith in
-    let all = c.loop-slot.invariant.0 ∙ ap (λ n. sum_below n (λ i. flight_in (stream c.args.self.now i) c.args.macroflow)) end in
-    all
+    sum_by_from_yields_List (λ s. flight_in s c.args.macroflow) c.args.self.now.streams c.map.result _ c.sum.ensures.ran (YieldsList-from_map _ (λ s. flight_in s c.args.macroflow) (YieldsList-at c.map.ensures.source (YieldsList-from_slice c.args.self.now.streams cc)) c.map.ensures.closure (λ x r q k. search (rules, tests)))
+    ∙ sum_by_below c.args.self.now.streams no_stream (λ s. flight_in s c.args.macroflow) 32 (omega arith)

@@ -1,5 +1,6 @@
 -- The state after the code has put the slots of a class back is the state that the rule gives.
 --   raised_is, lowered_is  of raise and lower
+--   class_below            the class that the classes' turns give is one of the four
 --   picked_after           of a pick that gives a class
 use Rattle.std.proofs.Common.{◌≡◌, ℕ, ◌/◌, ◌%◌, ◌<◌, List, length, get_or, set, Some, Option, ap, arith}
 use Rattle.std.proofs.lemmas.List.{get_or_default}
@@ -31,7 +32,7 @@ module _ (t : ClassTreeState) (four : length t.slots ≡ 4) where
     lowered_is e f = let here = read (i / 8) d (omega arith) in cc
 
   module _ (c : ℕ) (e : (round_robin 4).chosen t.classes ≡ Some c) where
-    class_below : c < 4
+    pub class_below : c < 4
     class_below = (round_robin_laws 4).waits_below t.classes c ((round_robin_laws 4).pick_waits t.classes c e)
 
     pub picked_after : (d m : RoundRobin 8) (classes : RoundRobin 4) → classes ≡ (round_robin 4).turned t.classes → m ≡ (round_robin 8).turned (get_or t.slots c d)

@@ -13,8 +13,8 @@ use Rattle.controllers.specs.declared.controller_of.ControllerOf.{ControllerOf}
 
 -- the numbers after a report that is heard, and after one that is not
 module _ {S : Type 0} (k : Rule S) (s : S) (r : Report) where
-  pub after_heard : (m : Mode) (q t : S) → heard r ≡ Some m → q ≡ k.sampled s r → t ≡ k.step q r m → t ≡ rule.told k s r
-  after_heard m q t h e f = f ∙ ap (λ (x : S). k.step x r m) e ∙ sym (told_as k.sampled k.step s r m h)
+  pub after_heard : (m : Mode) (t : S) → heard r ≡ Some m → t ≡ k.step (k.sampled s r) r m → t ≡ rule.told k s r
+  after_heard m t h f = f ∙ sym (told_as k.sampled k.step s r m h)
 
   pub after_ignored : heard r ≡ None → s ≡ rule.told k s r
   after_ignored h = sym (ap (λ o. when_heard o (k.step (k.sampled s r) r) s) h)

@@ -1,10 +1,10 @@
 //! A controller by its plain numbers.
-ghost use Rattle.std.specs.Prelude.{◌≡◌, ⊤};
+ghost use Rattle.std.specs.Prelude.{◌≡◌, ◌^◌, ◌<◌, ⊤};
 ghost use Rattle.controllers.specs.Packets.{made, numbers_of};
 
 use crate::numbers::Numbers;
 use crate::packets::checked_packet;
-use meaning::{Controller, PathEstimate, Refusal, Report};
+use meaning::{Controller, Mode, PathEstimate, Refusal, Report};
 use std::alloc::AllocError;
 
 /// A controller by its plain numbers, as `ByteAimd` and `RateController` are. No value of this type
@@ -47,6 +47,15 @@ impl<N: Numbers> ControllerOf<N> {
     }
 }
 
+/// The numbers after a report that is heard: its sample is taken first, then its mode.
+fn numbers_after<N: Numbers>(numbers: N, report: Report, mode: Mode) -> N
+    requires ranged { N.rule.InRange numbers }
+    requires amount { report.received < 2 ^ 32 }
+    ensures { result ≡ N.rule.step (N.rule.sampled numbers report) report mode }
+{
+    numbers.sampled(report).step(report, mode)
+}
+
 impl<N: Numbers> Controller for ControllerOf<N> {
     ghost use Rattle.controllers.specs.Rule.{LossNeverGrows, SilenceLeavesLeast};
     ghost use Rattle.controllers.specs.Controlled.{control_of, control_laws, told};
@@ -78,7 +87,7 @@ impl<N: Numbers> Controller for ControllerOf<N> {
         ensures silence { SilenceLeavesLeast N.rule self.old.state self.new.state report }
     {
         if let Some(mode) = report.heard() {
-            self.state = self.state.sampled(report).step(report, mode);
+            self.state = numbers_after(self.state, report, mode);
         }
     }
 }

@@ -1,2 +1,4 @@
+pub mod Accounts
 pub mod Events
 pub mod Hosts
+pub mod Words

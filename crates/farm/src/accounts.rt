@@ -1,5 +1,13 @@
 //! What the owners and the service crew read after the day: the ledger, the bill, the records'
 //! fate.
+ghost use Rattle.std.specs.Prelude.{◌≡◌, ◌-◌, Some, option_map, option_copied};
+ghost use Rattle.std.specs.Fmt.{padded};
+ghost use Rattle.std.specs.Result.{result_unwrap_or};
+ghost use Rattle.tables.specs.Streams.{no_stream};
+ghost use Rattle.stream_calls.specs.Calls.{standing};
+ghost use Rattle.farm.specs.Words.{column_text, share_text};
+ghost use Rattle.farm.specs.Accounts.{where_several, tenths};
+
 use crate::words::{FateWord, OrHyphen, STREAMS, StreamName, TimeOfDay, path_name};
 use manager::Manager;
 use std::{fmt, io};
@@ -20,6 +28,11 @@ pub struct Accounts<'a> {
 struct Column(Option<&'static str>);
 
 impl fmt::Display for Column {
+    ghost output = { λ c. Some (column_text (option_copied c.0)) };
+
+    ghost styled_output = { λ c spec.
+        Some (column_text (option_map (padded spec) (option_copied c.0))) };
+
     fn fmt<W: fmt::Write>(&self, f: &mut fmt::Formatter<W>) -> fmt::Result {
         match self.0 {
             Some(text) => {
@@ -36,17 +49,23 @@ impl fmt::Display for Column {
 struct Share(u64);
 
 impl Share {
-    fn of(part: u64, whole: u64) -> Share {
+    fn of(part: u64, whole: u64) -> Share
+        ensures { result.0 ≡ tenths part whole }
+    {
         Share(part.saturating_mul(1_000).checked_div(whole).unwrap_or(0))
     }
 
     /// What this share has more than another.
-    fn beyond(self, other: Share) -> Share {
+    fn beyond(self, other: Share) -> Share
+        ensures { result.0 ≡ self.0 - other.0 }
+    {
         Share(self.0.saturating_sub(other.0))
     }
 }
 
 impl fmt::Display for Share {
+    ghost output = { λ s. Some (share_text s.0) };
+
     fn fmt<W: fmt::Write>(&self, f: &mut fmt::Formatter<W>) -> fmt::Result {
         let percent = self.0 / 10;
         let rest = self.0 % 10;
@@ -63,12 +82,16 @@ impl Accounts<'_> {
     }
 
     /// The column for the paths, where there are several.
-    fn path_column(&self, text: &'static str) -> Column {
+    fn path_column(&self, text: &'static str) -> Column
+        ensures { option_copied result.0 ≡ where_several self.now.paths text.now }
+    {
         Column((self.paths > 1).then_some(text))
     }
 
     /// The record of a slot of the farm.
-    fn record(&self, slot: usize) -> Stream {
+    fn record(&self, slot: usize) -> Stream
+        ensures { result ≡ result_unwrap_or (standing self.now.manager.now.core slot) no_stream }
+    {
         self.manager.standing(slot).unwrap_or_default()
     }
 

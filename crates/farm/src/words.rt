@@ -1,4 +1,8 @@
 //! How the farm's values are printed for a person.
+ghost use Rattle.std.specs.Prelude.{◌≡◌, Some, codes};
+ghost use Rattle.std.specs.Fmt.{padded};
+ghost use Rattle.farm.specs.Words.{stream_text, path_text, time_text, or_hyphen, fate_text, refusal_text};
+
 use meaning::Refusal;
 use std::fmt;
 use tables::Fate;
@@ -20,7 +24,9 @@ pub(crate) const STREAMS: [&str; 9] = [
 const PATHS: [&str; 2] = ["north", "south"];
 
 /// The name of a radio path.
-pub(crate) fn path_name(macroflow: usize) -> &'static str {
+pub(crate) fn path_name(macroflow: usize) -> &'static str
+    ensures { result.now ≡ path_text macroflow }
+{
     PATHS.get(macroflow).copied().unwrap_or("no path")
 }
 
@@ -30,6 +36,10 @@ pub(crate) fn path_name(macroflow: usize) -> &'static str {
 pub struct StreamName(pub usize);
 
 impl fmt::Display for StreamName {
+    ghost output = { λ s. Some (stream_text s.0) };
+
+    ghost styled_output = { λ s spec. Some (padded spec (stream_text s.0)) };
+
     fn fmt<W: fmt::Write>(&self, f: &mut fmt::Formatter<W>) -> fmt::Result {
         f.pad(STREAMS.get(self.0).copied().unwrap_or("no stream"))
     }
@@ -40,6 +50,10 @@ impl fmt::Display for StreamName {
 pub struct PathName(pub usize);
 
 impl fmt::Display for PathName {
+    ghost output = { λ p. Some (path_text p.0) };
+
+    ghost styled_output = { λ p spec. Some (padded spec (path_text p.0)) };
+
     fn fmt<W: fmt::Write>(&self, f: &mut fmt::Formatter<W>) -> fmt::Result {
         f.pad(path_name(self.0))
     }
@@ -50,6 +64,8 @@ impl fmt::Display for PathName {
 pub struct TimeOfDay(pub u64);
 
 impl fmt::Display for TimeOfDay {
+    ghost output = { λ t. Some (time_text t.0) };
+
     fn fmt<W: fmt::Write>(&self, f: &mut fmt::Formatter<W>) -> fmt::Result {
         let seconds = self.0 / 1_000_000;
         let hour = seconds / 3_600;
@@ -64,6 +80,10 @@ impl fmt::Display for TimeOfDay {
 pub struct OrHyphen<T>(pub Option<T>);
 
 impl<T: fmt::Display> fmt::Display for OrHyphen<T> {
+    ghost output = { λ o. or_hyphen T.output (codes "-") o.0 };
+
+    ghost styled_output = { λ o spec. or_hyphen (λ x. T.styled_output x spec) (padded spec (codes "-")) o.0 };
+
     fn fmt<W: fmt::Write>(&self, f: &mut fmt::Formatter<W>) -> fmt::Result {
         match &self.0 {
             Some(value) => value.fmt(f),
@@ -77,6 +97,10 @@ impl<T: fmt::Display> fmt::Display for OrHyphen<T> {
 pub struct FateWord(pub Fate);
 
 impl fmt::Display for FateWord {
+    ghost output = { λ w. Some (fate_text w.0) };
+
+    ghost styled_output = { λ w spec. Some (padded spec (fate_text w.0)) };
+
     fn fmt<W: fmt::Write>(&self, f: &mut fmt::Formatter<W>) -> fmt::Result {
         f.pad(match self.0 {
             Fate::Open => "open",
@@ -92,6 +116,8 @@ impl fmt::Display for FateWord {
 pub struct Refused(pub Refusal);
 
 impl fmt::Display for Refused {
+    ghost output = { λ r. Some (refusal_text r.0) };
+
     fn fmt<W: fmt::Write>(&self, f: &mut fmt::Formatter<W>) -> fmt::Result {
         let number = self.0.number();
         write!(f, "refused, number {number}")

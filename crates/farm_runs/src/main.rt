@@ -12,9 +12,9 @@ use class_tree::ClassTree;
 use controllers::{ByteAimd, RateController};
 use farm::{Accounts, Refused};
 use farm_day::DAY;
-use house::{Bounded, run_bounded};
+use house::{run_class_tree, run_round_robin};
 use manager::Call;
-use meaning::{Controller, Refusal};
+use meaning::{Controller, Refusal, Scheduler};
 use runs::{Outcome, RunError};
 use schedulers::RoundRobin;
 use std::alloc::{AllocError, Global};
@@ -53,18 +53,21 @@ fn tell_day(rt: &impl Print, calls: &[Call], rows: &[Row], outcome: &Outcome) ->
 }
 
 /// Passes the day with this controller, if it was made, and this scheduler for each path, over
-/// fresh rows, and prints how it went and its accounts. Two of each have to fit in memory, as every
-/// slice does.
-fn pass<C: Controller, S: Bounded>(
+/// fresh rows, by a run of that scheduler, and prints how it went and its accounts. Two of each have
+/// to fit in memory, as every slice does.
+fn pass<C: Controller, S: Scheduler, F>(
     rt: &impl Print,
-    heap: Global,
     calls: &[Call],
     name: &str,
     made: Result<C, Refusal>,
     scheduler: S,
+    run: F,
 ) -> io::Result<()>
+where
+    F: Fn(&mut [C], &mut [S], &mut [Row]) -> Result<Outcome, RunError>,
     requires controllers_fit { 2 * type_size C.row < 2 ^ 63 }
     requires schedulers_fit { 2 * type_size S.row < 2 ^ 63 }
+    requires run { F.IsAlwaysCallable run }
 {
     let controller = match made {
         Ok(controller) => controller,
@@ -73,46 +76,41 @@ fn pass<C: Controller, S: Bounded>(
     let mut controllers = [controller; PATHS];
     let mut schedulers = [scheduler; PATHS];
     let mut rows = [Row::blank(); ROWS];
-    match run_bounded(
-        heap,
-        PATHS,
-        &mut controllers,
-        &mut schedulers,
-        &mut rows,
-        calls,
-    ) {
+    match run(&mut controllers, &mut schedulers, &mut rows) {
         Ok(outcome) => tell_day(rt, calls, &rows, &outcome),
         Err(RunError::Refused(refusal)) => println!(rt; "The farm: {}", Refused(refusal)),
         Err(RunError::NoMemory) => println!(rt; "There is no memory for the day"),
     }
 }
 
-/// The day by both pairs of parts.
+/// The day by both pairs of parts, each by the run whose bound on waits is a number.
 fn days(rt: &impl Print, heap: Global, calls: &[Call]) -> io::Result<()> {
     println!(rt;
         "1. A farm's day: six turbines, nine streams, two radio paths, by byte AIMD and round robin"
     )?;
     println!(rt; "")?;
-    let controller = ByteAimd::new(PACKET);
     pass(
         rt,
-        heap,
         calls,
         "Byte AIMD",
-        controller,
+        ByteAimd::new(PACKET),
         RoundRobin::<32>::new(),
+        |controllers, schedulers, rows| {
+            run_round_robin(heap, PATHS, controllers, schedulers, rows, calls)
+        },
     )?;
     println!(rt; "")?;
     println!(rt; "2. The same day, by the rate controller and the class tree")?;
     println!(rt; "")?;
-    let controller = RateController::new(PACKET);
     pass(
         rt,
-        heap,
         calls,
         "Rate controller",
-        controller,
+        RateController::new(PACKET),
         ClassTree::new(),
+        |controllers, schedulers, rows| {
+            run_class_tree(heap, PATHS, controllers, schedulers, rows, calls)
+        },
     )
 }
 

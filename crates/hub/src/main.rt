@@ -25,10 +25,14 @@ fn controllers_day(rt: &impl Print) -> io::Result<()> {
     path_day::tell(rt, "Byte AIMD", "window", ByteAimd::new(PACKET))?;
     path_day::tell(rt, "Rate controller", "rate", RateController::new(PACKET))?;
     println!(rt; "")?;
-    print!(rt; "A controller with packets of 9001 bytes: ")?;
     match ByteAimd::new(9_001) {
-        Ok(_) => println!(rt; "made"),
-        Err(refusal) => println!(rt; "{}", Refused(refusal)),
+        Ok(_) => println!(rt; "A controller with packets of 9001 bytes: made"),
+        Err(refusal) => {
+            println!(rt;
+                "A controller with packets of 9001 bytes: {}",
+                Refused(refusal)
+            )
+        }
     }
 }
 

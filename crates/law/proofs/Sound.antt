@@ -89,13 +89,13 @@ module _ {C S : Type 0} (H : Host C S) (c-laws : ControlLaws H.control) (laws : 
   slot i l = K.streams.slots i l
 
   -- the lists have the lengths given at making
-  schedulers_right : eqb (length s.schedulers) m.macroflows ≡ true
+  pub schedulers_right : eqb (length s.schedulers) m.macroflows ≡ true
   schedulers_right = eq-eqb _ _ (K.parts.schedulers_size ∙ sym K.macroflows_is)
 
-  controllers_right : eqb (length s.controllers) m.macroflows ≡ true
+  pub controllers_right : eqb (length s.controllers) m.macroflows ≡ true
   controllers_right = eq-eqb _ _ (K.parts.controllers_size ∙ sym K.macroflows_is)
 
-  rows_right : eqb (length s.rows) m.capacity ≡ true
+  pub rows_right : eqb (length s.rows) m.capacity ≡ true
   rows_right = eq-eqb _ _ (K.ledger.size ∙ sym K.capacity_is)
 
   pub tables_right : (eqb (length s.controllers) m.macroflows && (eqb (length s.schedulers) m.macroflows && eqb (length s.rows) m.capacity)) ≡ true

@@ -110,6 +110,9 @@ module _ {C S : Type 0} (H : Host C S) (laws : SchedulingLaws 32 H.scheduling) (
   pub begins : (x : S) (i w : ℕ) (before now : Bool) → before ≡ false → now ≡ true → H.scheduling.raised x i w ≡ changed H.scheduling x i w before now
   begins x i w before now b n = sym (ap₂ (λ y z. changed H.scheduling x i w y z) b n)
 
+  pub ceases : (x : S) (i w : ℕ) (before now : Bool) → before ≡ true → now ≡ false → H.scheduling.lowered x i ≡ changed H.scheduling x i w before now
+  ceases x i w before now b n = sym (ap₂ (λ y z. changed H.scheduling x i w y z) b n)
+
   pub stays : (x : S) (i w : ℕ) (before now : Bool) → before ≡ now → x ≡ changed H.scheduling x i w before now
   stays x i w before now e = sym (changed_same H.scheduling x i w before now e)
 

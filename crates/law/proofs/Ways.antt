@@ -6,8 +6,9 @@
 --   Passes qs      every question is answered 'yes'
 --   Refuses qs n   the first question that is answered 'no' has the reason n
 --   no_both        not both
+--   asked_passes   a call whose questions are all answered 'yes' is not refused
 --   answered_cases a call is refused, or every question is answered 'yes' and it acts
-use Rattle.std.proofs.Common.{◌≡◌, ℕ, ◌<◌, Bool, true, false, cond, eqb, ◌⊎◌, List, [], ◌∷◌, length, get_or, set, Err, Result, sym, refl, ◌∙◌, subst, inl, inr, ⊎_elim}
+use Rattle.std.proofs.Common.{◌≡◌, ℕ, ◌<◌, Bool, true, false, cond, eqb, ◌⊎◌, List, [], ◌∷◌, length, get_or, set, Ok, Err, Result, sym, refl, ap, ◌∙◌, subst, inl, inr, ⊎_elim}
 use Rattle.std.proofs.lemmas.List.{get_or-set_same, get_or-set_other}
 use Rattle.std.proofs.lemmas.Bool.{eqb-true, eqb-false, true≢false, cond_both}
 use Rattle.meaning.specs.declared.refusal.Reason.{Reason}
@@ -47,6 +48,10 @@ pub no_both : (qs : List Question) (n : Reason) → Passes qs → Refuses qs n �
 unfolding Refuses
 no_both [] n p w = w
 no_both (x ∷ xs) n p w = ⊎_elim (λ no. true≢false (sym p.0 ∙ no.0)) (λ rest. no_both xs n p.1 rest.1) w
+
+pub asked_passes : {X : Type 0} (e : Reason → Refusal) (x : X) (qs : List Question) → Passes qs → asked qs e x ≡ Ok x
+asked_passes e x [] p = refl
+asked_passes e x (y ∷ ys) p = ap (λ b. cond b (asked ys e x) (Err (e y.reason))) p.0 ∙ asked_passes e x ys p.1
 
 pub answered_cases : {X A T : Type 0} (P : Reply (Result A Refusal) T → Type 0) (e : Reason → Refusal) (x : X) (qs : List Question) (m : Core) (ts : T) (f : X → Reply (Result A Refusal) T)
     → ((n : Reason) → Refuses qs n → P (reply (Err (e n)) m ts)) → (Passes qs → P (f x)) → P (answered (asked qs e x) m ts f)

@@ -4,7 +4,7 @@ use Rattle.std.proofs.lemmas.List.{get_or_default}
 use Rattle.std.proofs.lemmas.Bool.{cases_Bool, cases_order, both_ways}
 use Rattle.least.specs.Order.{Order, Least, shifted, against, first_least}
 
-upto_self : {X : Type 0} {upto : X → X → Bool} → Order upto → (x : X) → upto x x ≡ true
+pub upto_self : {X : Type 0} {upto : X → X → Bool} → Order upto → (x : X) → upto x x ≡ true
 upto_self {upto = upto} o x = ⊎_elim (λ t. t) (λ f. o.either x x f) (cases_Bool (upto x x))
 
 -- what holds at place 0, and at each place after one that is below n, holds below suc n

@@ -1,11 +1,12 @@
--- What it is that one of the numbers below n passes a test.
+-- What it is that one of the numbers below n passes a test, or each of them.
 --   any_below_some  then there is such a number
 --   any_below_none  else each of them fails
 --   any_below_true  one that passes is enough
 --   any_below_false it fails where each of them does
-use Rattle.std.proofs.Common.{◌≡◌, ℕ, zero, suc, ◌<◌, Bool, true, false, refl, ⊎_elim, arith}
+--   all_fails       not each of them passes where one fails
+use Rattle.std.proofs.Common.{◌≡◌, ℕ, zero, suc, ◌<◌, Bool, true, false, ◌&&◌, refl, sym, ap, ◌∙◌, ⊎_elim, arith}
 use Rattle.std.proofs.lemmas.Bool.{or_cases, or_parts, or_from, cases_Bool, both_ways, cases_eq, false≢true}
-use Rattle.meaning.specs.Below.{any_below}
+use Rattle.meaning.specs.Below.{any_below, all_below}
 
 pub any_below_some : (n : ℕ) (test : ℕ → Bool) → any_below n test ≡ true → (i : ℕ) × (i < n) × (test i ≡ true)
 unfolding any_below
@@ -34,3 +35,13 @@ pub any_below_false : (n : ℕ) (test : ℕ → Bool) → ((i : ℕ) → test i 
 unfolding any_below
 any_below_false zero test all = refl
 any_below_false (suc n) test all = or_from (test n) (any_below n test) (all n) (any_below_false n test all)
+
+and_right : (a b : Bool) → b ≡ false → (a && b) ≡ false
+and_right true b e = e
+and_right false b e = refl
+
+pub all_fails : (n i : ℕ) (test : ℕ → Bool) → i < n → test i ≡ false → all_below n test ≡ false
+unfolding all_below
+all_fails zero i test l h = absurd (omega arith)
+all_fails (suc n) i test l h =
+    ⊎_elim (λ e. and_right (all_below n test) (test n) (ap test (sym e) ∙ h)) (λ (e : i ≡ n → ⊥). ap (λ b. b && test n) (all_fails n i test (omega arith) h)) (cases_eq i n)

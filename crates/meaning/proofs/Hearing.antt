@@ -1,6 +1,6 @@
 -- A report is heard exactly when its numbers are in range. Assumes nothing.
-use Rattle.std.proofs.Common.{◌≡◌, ℕ, ◌≤◌, true, false, eqb, leb, Some, None, Option, refl, ap, ◌∙◌, arith}
-use Rattle.std.proofs.lemmas.Bool.{cond_both, cond-true, cond-false, and_parts, leb-true, eqb-false}
+use Rattle.std.proofs.Common.{◌≡◌, ℕ, ◌^◌, ◌<◌, ◌≤◌, true, false, eqb, leb, Some, None, Option, refl, ap, ◌∙◌, arith}
+use Rattle.std.proofs.lemmas.Bool.{cond_both, cond-true, cond-false, and_parts, leb-true, ltb-true, eqb-false}
 use Rattle.meaning.specs.declared.report.Mode.{Mode}
 use Rattle.meaning.specs.declared.report.Mode.TheVariants.{Clear, Loss, Mark, Silence}
 use Rattle.meaning.specs.declared.report.Report.{Report}
@@ -27,6 +27,15 @@ module _ (r : Report) where
 
   pub heard_none : in_range r ≡ false → heard r ≡ None
   heard_none e = cond-false (in_range r) (mode_numbered r.mode) None e
+
+  -- a report that is heard is in range
+  pub heard_in_range : (m : Mode) → heard r ≡ Some m → in_range r ≡ true
+  heard_in_range m =
+      let P : Option Mode → Type 0 = λ o. o ≡ Some m → in_range r ≡ true in
+      cond_both (in_range r) (mode_numbered r.mode) None P (λ e _. e) (λ _ z. absurd (let x : ◌≡◌ {A = ℕ} 0 1 = cc in omega arith))
+
+  pub received_amount : in_range r ≡ true → r.received < 2 ^ 32
+  received_amount e = ltb-true r.received (2 ^ 32) (and_parts (is_amount r.received) _ e).0
 
 when_heard_both : {S : Type 0} (o : Option Mode) (f : Mode → S) (s : S) (P : S → Type 0) → ((m : Mode) → P (f m)) → P s → P (when_heard o f s)
 when_heard_both None f s P each none = none

@@ -45,21 +45,23 @@ fn send(uplink: &mut Uplink, slot: usize, bytes: u64) -> Result<usize, Denied> {
 
 /// Lets one sender send, and prints what the ledger says of it.
 fn run_sender(rt: &impl Print, uplink: &mut Uplink, sender: &Sender) -> io::Result<()> {
+    let sent = send(uplink, sender.slot, sender.bytes);
     let name = sender.name;
-    print!(rt; "  {name}")?;
-    if sender.bytes == 0 {
-        print!(rt; ", nothing to send")?;
-    }
-    let grant = match send(uplink, sender.slot, sender.bytes) {
+    let note = if sender.bytes == 0 {
+        ", nothing to send"
+    } else {
+        ""
+    };
+    let grant = match sent {
         Ok(grant) => grant,
-        Err(denied) => return println!(rt; ": {denied}"),
+        Err(denied) => return println!(rt; "  {name}{note}: {denied}"),
     };
     match uplink.row(grant) {
         Some(row) => {
             let (granted, sent, fate) = (row.granted, row.sent, FateWord(row.fate));
-            println!(rt; ": grant {grant}, {sent} of {granted} bytes sent, {fate}")
+            println!(rt; "  {name}{note}: grant {grant}, {sent} of {granted} bytes sent, {fate}")
         }
-        None => println!(rt; ": no row"),
+        None => println!(rt; "  {name}{note}: no row"),
     }
 }
 

@@ -8,7 +8,7 @@ invariant_of-self g c =
     let k = g.N.Numbers in
     let s = c.args.self.now in
     let r = c.args.report in
-    let after = after_heard k.rule s.state r _ _ _ (sym c.heard.ensures ∙ c.in-Some.is) c.sampled.ensures c.step-self.ensures in
+    let after = after_heard k.rule s.state r _ _ (sym c.heard.ensures ∙ c.in-Some.is) c.numbers_after-self.ensures in
     record { ranged = subst k.rule.InRange (sym after) (told_in_range k.rule k.lawful s.state s.ranged r) }
 
 pub returns-in-Some : goal.returns-in-Some
@@ -16,7 +16,7 @@ returns-in-Some g c =
     let k = g.N.Numbers in
     let s = c.args.self.now in
     let r = c.args.report in
-    let after = after_heard k.rule s.state r _ _ _ (sym c.heard.ensures ∙ c.in-Some.is) c.sampled.ensures c.step-self.ensures in
+    let after = after_heard k.rule s.state r _ _ (sym c.heard.ensures ∙ c.in-Some.is) c.numbers_after-self.ensures in
     let p = promised k s _ r after in
     record { after = p.0; loss = p.1; silence = p.2 }
 

@@ -54,7 +54,9 @@ fn tell_day(rt: &impl Print, calls: &[Call], rows: &[Row], outcome: &Outcome) ->
 
 /// Passes the day with this controller, if it was made, and this scheduler for each path, over
 /// fresh rows, by a run of that scheduler, and prints how it went and its accounts. Two of each have
-/// to fit in memory, as every slice does.
+/// to fit in memory, as every slice does. Not put into its caller: the stack then has the tables of
+/// one day, and not of both.
+#[inline(never)]
 fn pass<C: Controller, S: Scheduler, F>(
     rt: &impl Print,
     calls: &[Call],

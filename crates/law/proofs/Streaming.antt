@@ -106,12 +106,15 @@ module _ {C S : Type 0} (H : Host C S) (laws : SchedulingLaws 32 H.scheduling) (
       let z = H.scheduling.spare in
       at_set ss p f (G (get_or ss p z)) z (λ b x y. y ≡ cond b (G (scheduler_of H h x)) (scheduler_of H h x)) (omega (arith, K.parts.schedulers_size)) (ap G (K.parts.schedules p there)) (λ _. K.parts.schedules f l)
 
-  -- what a scheduler is told of one slot
+  -- what a scheduler is told of one slot, by two tests: whether it waited, and whether it waits
+  told_by_tests : (x : S) (i w : ℕ) (b n before now : Bool) → before ≡ b → now ≡ n → changed H.scheduling x i w b n ≡ changed H.scheduling x i w before now
+  told_by_tests x i w b n before now p q = sym (ap₂ (λ y z. changed H.scheduling x i w y z) p q)
+
   pub begins : (x : S) (i w : ℕ) (before now : Bool) → before ≡ false → now ≡ true → H.scheduling.raised x i w ≡ changed H.scheduling x i w before now
-  begins x i w before now b n = sym (ap₂ (λ y z. changed H.scheduling x i w y z) b n)
+  begins x i w = told_by_tests x i w false true
 
   pub ceases : (x : S) (i w : ℕ) (before now : Bool) → before ≡ true → now ≡ false → H.scheduling.lowered x i ≡ changed H.scheduling x i w before now
-  ceases x i w before now b n = sym (ap₂ (λ y z. changed H.scheduling x i w y z) b n)
+  ceases x i w = told_by_tests x i w true false
 
   pub stays : (x : S) (i w : ℕ) (before now : Bool) → before ≡ now → x ≡ changed H.scheduling x i w before now
   stays x i w before now e = sym (changed_same H.scheduling x i w before now e)
